@@ -1,0 +1,10 @@
+pub mod Words
+pub mod Sizes
+pub mod Rights
+pub mod Codes
+pub mod Schemes
+pub mod Rosters
+pub mod Forms
+pub mod Stores
+pub mod Requests
+pub mod Cards
