@@ -31,6 +31,12 @@ spelled code =
     && not (isHyphen (getD code 0 0))
     && not (isHyphen (getD code (length code - 1) 0))
 
+-- 4: "a code breaks the spelling"
+abbrev pub codeNumber : List ℕ → ℕ
+codeNumber code =
+    4 when not (spelled code) else
+    0
+
 -- In lent memory a code is twelve bytes, padded with zeros, as three big-endian words.
 unfoldable pub padded : List ℕ → List ℕ
 padded code = code ++ replicate (mostCode - length code) 0

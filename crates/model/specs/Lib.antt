@@ -8,3 +8,12 @@ pub mod Forms
 pub mod Stores
 pub mod Requests
 pub mod Cards
+pub mod Questions
+pub mod Kinds
+pub mod Listing
+pub mod Verdicts
+pub mod Outcomes
+pub mod Lines
+pub mod Mill
+pub mod Cases
+pub mod Worked

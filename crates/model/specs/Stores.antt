@@ -5,10 +5,10 @@ use mathlib.Core.Bool.{Bool, not, _&&_}
 use mathlib.Core.List.{List, [], _∷_, _++_, map}
 use lib.Dec.{leb, ltb, eqb}
 use lib.ListN.{length, getD, drop, take}
-use Rattle.model.specs.Words.{_when_else_, all, firstPlace, same, allDiffer, joined, groups, writtenOver}
+use Rattle.model.specs.Words.{_when_else_, _then_, all, firstPlace, same, allDiffer, joined, groups, writtenOver}
 use Rattle.model.specs.Sizes.{mostDesigns, designWords}
 use Rattle.model.specs.Rights.{fitsRights}
-use Rattle.model.specs.Codes.{spelled, codeWords, codeAt}
+use Rattle.model.specs.Codes.{spelled, codeNumber, codeWords, codeAt}
 use Rattle.model.specs.Schemes.{Scheme}
 
 pub record Design : Type 0 where
@@ -31,6 +31,13 @@ exists code designs = ltb (placeOf code designs) (length designs)
 -- the design with this code
 abbrev pub designAt : List ℕ → List Design → Design
 designAt code designs = getD designs (placeOf code designs) noDesign
+
+-- "4, 12", for a call that names a design
+unfoldable pub namedNumber : List Design → List ℕ → ℕ
+namedNumber designs code =
+    codeNumber code then
+    12 when not (exists code designs) else
+    0
 
 -- 21, of the store itself: "over 64 designs, a bad or repeated code"
 unfoldable pub isSound : List Design → Bool

@@ -1,6 +1,8 @@
 -- The few words that the definitions are written with: a choice in order, tests over lists, numbers in a base, and what lies in lent memory.
 -- Nothing here is about rights or designs. Assumes nothing.
+use Prim.Native.Char as Char
 use Prim.Native.Nat.{ℕ, zero, suc, _+_, _*_, _/_, _%_, _^_}
+use Prim.Native.String as String
 use mathlib.Core.Bool.{Bool, true, false, _&&_, _||_, not, cond}
 use mathlib.Core.List.{List, [], _∷_, _++_, map}
 use lib.Dec.{leb, eqb}
@@ -10,6 +12,11 @@ use lib.ListN.{length, take, drop}
 infixr 5 _when_else_
 abbrev pub _when_else_ : {A : Type 0} → A → Bool → A → A
 a when test else b = cond test a b
+
+-- "number then number": the first that isn't 0.
+infixr 5 _then_
+abbrev pub _then_ : ℕ → ℕ → ℕ
+m then n = m when not (eqb m 0) else n
 
 -- n is one of least, .., most
 abbrev pub between : ℕ → ℕ → ℕ → Bool
@@ -80,3 +87,8 @@ numberOf base (d ∷ ds) = d * base ^ length ds + numberOf base ds
 -- "numbers big-endian"
 abbrev pub bigEndian : List ℕ → ℕ
 bigEndian bytes = numberOf 256 bytes
+
+-- quoted text, as the bytes that write it
+abbrev pub text : String.String → List ℕ
+text String.[] = []
+text (String._∷_ c cs) = Char.code c ∷ text cs

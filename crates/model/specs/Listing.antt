@@ -1,0 +1,93 @@
+-- The listing of stand-in states, in document 01's words; the small step that a search moves on by; and what is reachable at all.
+-- "A *stand-in state* has one cell per type. Commands act on it as above, each type being one person": a row of eight cells.
+-- Assumes nothing.
+use Prim.Native.Nat.{ℕ, zero, suc}
+use mathlib.Core.Bool.{Bool, true, not, _&&_}
+use mathlib.Core.List.{List, [], _∷_, _++_}
+use mathlib.Core.List.{List·Memᴰ}
+use mathlib.Core.Path.{_≡_}
+use lib.Dec.{leb, ltb}
+use lib.ListN.{length, getD}
+use Rattle.model.specs.declared.Command.{Command}
+use Rattle.model.specs.Words.{_when_else_, any, firstPlace, same}
+use Rattle.model.specs.Rights.{meets, common}
+use Rattle.model.specs.Schemes.{Scheme, commandAt}
+use Rattle.model.specs.Forms.{cellAt, held, lose, act}
+use Rattle.model.specs.Kinds.{isStep, both}
+
+abbrev pub Row : Type 0
+Row = List ℕ
+
+-- "each grant and internal of the kind .. whose X is held"
+unfoldable pub fires : ℕ → Command → Row → Bool
+fires kind c row = isStep kind c && held c (c .source) row
+
+-- "the resulting state"
+unfoldable pub moved : Command → Row → Row
+moved c row = act c (c .source) (c .destination) row
+
+-- "is put at the end if it isn't there"
+unfoldable pub put : Row → List Row → List Row
+put row rows =
+    rows when any (same row) rows else
+    rows ++ (row ∷ [])
+
+-- what one command adds for one listed state
+unfoldable pub tried : ℕ → Command → Row → List Row → List Row
+tried kind c row rows =
+    put (moved c row) rows when fires kind c row else
+    rows
+
+-- "and each grant and internal of the kind in scheme order"
+unfoldable pub expanded : ℕ → List Command → Row → List Row → List Row
+expanded kind [] row rows = rows
+expanded kind (c ∷ cs) row rows = expanded kind cs row (tried kind c row rows)
+
+-- "For each listed state in order", of the next n from state `at` on
+unfoldable pub listedFrom : Scheme → ℕ → ℕ → ℕ → List Row → List Row
+listedFrom s kind zero at rows = rows
+listedFrom s kind (suc n) at rows =
+    let more = listedFrom s kind n (suc at) (expanded kind (s .commands) (getD rows at []) rows) in
+    more when ltb at (length rows) else
+    rows
+
+-- "the start is state 0". So many states are gone through; the listing has no more than those exactly if its length is at most that many.
+unfoldable pub listing : Scheme → ℕ → Row → ℕ → List Row
+listing s kind start most = listedFrom s kind most 0 (start ∷ [])
+
+-- "one small record of its progress, moved on in place: rows listed, row at hand, command at hand"
+pub record Search : Type 0 where
+  pub rows : List Row
+  pub row : ℕ
+  pub command : ℕ
+
+-- one small step: the command at hand is tried on the row at hand, and after the last command the next row is at hand
+unfoldable pub smallStep : Scheme → ℕ → Search → Search
+smallStep s kind p =
+    p when leb (length (p .rows)) (p .row) else
+    record { rows = p .rows; row = suc (p .row); command = 0 } when leb (length (s .commands)) (p .command) else
+    record {
+      rows = tried kind (commandAt s (p .command)) (getD (p .rows) (p .row) []) (p .rows);
+      row = p .row;
+      command = suc (p .command);
+    }
+
+unfoldable pub smallSteps : Scheme → ℕ → ℕ → Search → Search
+smallSteps s kind zero p = p
+smallSteps s kind (suc n) p = smallSteps s kind n (smallStep s kind p)
+
+-- the states that some run of steps reaches from the start
+pub data Reach (s : Scheme) (kind : ℕ) (start : Row) : Row → Type 0 where
+  here : Reach s kind start start
+  next : {row : Row} (c : Command) → Reach s kind start row → List·Memᴰ c (s .commands) → fires kind c row ≡ true → Reach s kind start (moved c row)
+
+-- "A step is *duplicate* if, after the loss, the destination type still holds a right of Z that is both propagation and deletable."
+unfoldable pub isDuplicate : Scheme → ℕ → Command → Row → Bool
+isDuplicate s kind c row = meets (common (cellAt (lose c (c .source) row) (c .destination)) (c .z)) (both s kind)
+
+-- the first command that is a duplicate step in this state, and the length of the commands where none is
+unfoldable pub firstDuplicate : Scheme → ℕ → Row → ℕ
+firstDuplicate s kind row = firstPlace (λ c. fires kind c row && isDuplicate s kind c row) (s .commands)
+
+unfoldable pub hasDuplicate : Scheme → ℕ → Row → Bool
+hasDuplicate s kind row = ltb (firstDuplicate s kind row) (length (s .commands))
