@@ -1,3 +1,4 @@
 pub mod Computes
 pub mod Cases
 pub mod Worked
+pub mod Traps

@@ -1,0 +1,133 @@
+-- The listing in document 01's words and the small steps of a search agree: rows are only put at the end, so the row at hand stays as it is
+-- while its commands are tried, and one row takes as many small steps as there are commands, and one more. Assumes nothing.
+use Prim.Native.Nat.{ℕ, zero, suc, _+_, _*_, _≤_, _<_}
+use mathlib.Core.Bool.{Bool, true, false}
+use mathlib.Core.List.{List, [], _∷_, _++_, append-nil, append-assoc}
+use mathlib.Core.Path.{_≡_, refl, sym, ap, _∙_}
+use native.Mathlib.Nat.{zero-add, suc-add, suc-mul, zero-mul, add-comm}
+use native.Mathlib.Omega.{arith}
+use lib.Dec.{leb, ltb}
+use lib.ListN.{length, getD, drop, length-append, drop-of-length-le, List·getD-append}
+use lib.Seq.{drop-cons}
+use borrow.Author.Tests.{lt-ltb, le-ltb, le-leb, lt-leb, ltb-true, ltb-false}
+use Rattle.model.specs.declared.Command.{Command}
+use Rattle.model.specs.Words.{_when_else_, any, same}
+use Rattle.model.specs.Schemes.{Scheme, commandAt, noCommand}
+use Rattle.model.specs.Listing.{Row, fires, moved, put, tried, expanded, listedFrom, listing, Search, smallStep, smallSteps}
+
+-- rows, with more put at the end
+pub record Grown (rows more : List Row) : Type 0 where
+  pub tail : List Row
+  pub is : more ≡ rows ++ tail
+
+grown-refl : (rows : List Row) → Grown rows rows
+grown-refl rows = record { tail = []; is = sym (append-nil rows) }
+
+grown-trans : {a b c : List Row} → Grown a b → Grown b c → Grown a c
+grown-trans {a} g h =
+    record { tail = g .tail ++ h .tail; is = h .is ∙ ap (λ (l : List Row). l ++ h .tail) (g .is) ∙ append-assoc a (g .tail) (h .tail) }
+
+put-cases : (t : Bool) (row : Row) (rows : List Row) → Grown rows (rows when t else rows ++ (row ∷ []))
+put-cases true row rows = grown-refl rows
+put-cases false row rows = record { tail = row ∷ []; is = refl }
+
+pub put-grows : (row : Row) (rows : List Row) → Grown rows (put row rows)
+unfolding put
+put-grows row rows = put-cases (any (same row) rows) row rows
+
+tried-cases : (t : Bool) (row : Row) (rows : List Row) → Grown rows (put row rows when t else rows)
+tried-cases true row rows = put-grows row rows
+tried-cases false row rows = grown-refl rows
+
+pub tried-grows : (kind : ℕ) (c : Command) (row : Row) (rows : List Row) → Grown rows (tried kind c row rows)
+unfolding tried
+tried-grows kind c row rows = tried-cases (fires kind c row) (moved c row) rows
+
+pub expanded-grows : (kind : ℕ) (cs : List Command) (row : Row) (rows : List Row) → Grown rows (expanded kind cs row rows)
+unfolding expanded
+expanded-grows kind [] row rows = grown-refl rows
+expanded-grows kind (c ∷ cs) row rows = grown-trans (tried-grows kind c row rows) (expanded-grows kind cs row (tried kind c row rows))
+
+-- what is listed stays in its place
+pub grown-keeps : {rows more : List Row} → Grown rows more → (i : ℕ) → i < length rows → getD more i [] ≡ getD rows i []
+grown-keeps {rows} g i h = ap (λ (l : List Row). getD l i []) (g .is) ∙ List·getD-append rows (g .tail) [] i h
+
+pub grown-longer : {rows more : List Row} → Grown rows more → length rows ≤ length more
+grown-longer {rows} g = omega (arith, ap (λ (l : List Row). length l) (g .is) ∙ length-append rows (g .tail))
+
+-- ---- small steps
+
+steps-add : (s : Scheme) (kind m n : ℕ) (p : Search) → smallSteps s kind (m + n) p ≡ smallSteps s kind n (smallSteps s kind m p)
+unfolding smallSteps
+steps-add s kind zero n p = rw zero-add
+steps-add s kind (suc m) n p = rw suc-add (steps-add s kind m n (smallStep s kind p))
+
+abbrev pub at : List Row → ℕ → ℕ → Search
+at rows row command = record { rows = rows; row = row; command = command }
+
+-- past the last listed row nothing moves
+pub step-done : (s : Scheme) (kind : ℕ) (p : Search) → length (p .rows) ≤ p .row → smallStep s kind p ≡ p
+unfolding smallStep
+step-done s kind p h = rw (le-leb (length (p .rows)) (p .row) h)
+
+pub steps-done : (s : Scheme) (kind n : ℕ) (p : Search) → length (p .rows) ≤ p .row → smallSteps s kind n p ≡ p
+unfolding smallSteps
+steps-done s kind zero p h = refl
+steps-done s kind (suc n) p h = rw (step-done s kind p h) (steps-done s kind n p h)
+
+pub step-next-row : (s : Scheme) (kind : ℕ) (rows : List Row) (row command : ℕ) → row < length rows → length (s .commands) ≤ command
+    → smallStep s kind (at rows row command) ≡ at rows (suc row) 0
+unfolding smallStep
+step-next-row s kind rows row command h l = rw (lt-leb (length rows) row h, le-leb (length (s .commands)) command l)
+
+pub step-tries : (s : Scheme) (kind : ℕ) (rows : List Row) (row command : ℕ) → row < length rows → command < length (s .commands)
+    → smallStep s kind (at rows row command) ≡ at (tried kind (commandAt s command) (getD rows row []) rows) row (suc command)
+unfolding smallStep
+step-tries s kind rows row command h l = rw (lt-leb (length rows) row h, lt-leb (length (s .commands)) command l)
+
+-- the commands that are left of a row, j of them, and the step to the next row
+row-done : (s : Scheme) (kind j k : ℕ) (rows : List Row) (row : ℕ) → row < length rows → k + j ≡ length (s .commands)
+    → smallSteps s kind (suc j) (at rows row k) ≡ at (expanded kind (drop k (s .commands)) (getD rows row []) rows) (suc row) 0
+unfolding smallSteps expanded
+row-done s kind zero k rows row h e =
+    rw (step-next-row s kind rows row k h (omega arith), drop-of-length-le (s .commands) {i = k} (omega arith))
+row-done s kind (suc j) k rows row h e =
+    let more = tried kind (commandAt s k) (getD rows row []) rows in
+    let g = tried-grows kind (commandAt s k) (getD rows row []) rows in
+    let l : k < length (s .commands) = omega arith in
+    rw (step-tries s kind rows row k h l, drop-cons (s .commands) k noCommand l)
+    (row-done s kind j (suc k) more row (omega (arith, grown-longer g)) (omega arith)
+    ∙ ap (λ (r : Row). at (expanded kind (drop (suc k) (s .commands)) r more) (suc row) 0) (grown-keeps g row h))
+
+-- a listed row is gone through in one small step for each command, and one more
+row-first : (s : Scheme) (kind n : ℕ) (rows : List Row) (row : ℕ) → row < length rows
+    → smallSteps s kind (suc n * suc (length (s .commands))) (at rows row 0)
+    ≡ smallSteps s kind (n * suc (length (s .commands))) (at (expanded kind (s .commands) (getD rows row []) rows) (suc row) 0)
+row-first s kind n rows row h =
+    let m = suc (length (s .commands)) in
+    ap (λ (k : ℕ). smallSteps s kind k (at rows row 0)) (suc-mul n m ∙ add-comm (n * m) m)
+    ∙ steps-add s kind m (n * m) (at rows row 0)
+    ∙ ap (smallSteps s kind (n * m)) (row-done s kind (length (s .commands)) 0 rows row h (zero-add (length (s .commands))))
+
+-- the next n rows, from any row on
+listed-by-steps : (s : Scheme) (kind n : ℕ) (rows : List Row) (row : ℕ)
+    → smallSteps s kind (n * suc (length (s .commands))) (at rows row 0) .rows ≡ listedFrom s kind n row rows
+unfolding listedFrom smallSteps
+listed-by-steps s kind zero rows row = rw (zero-mul (suc (length (s .commands))))
+listed-by-steps s kind (suc n) rows row =
+    by-test (ltb row (length rows)) refl (listed-by-steps s kind n (expanded kind (s .commands) (getD rows row []) rows) (suc row))
+  where
+    more : List Row
+    more = listedFrom s kind n (suc row) (expanded kind (s .commands) (getD rows row []) rows)
+
+    by-test : (t : Bool) → ltb row (length rows) ≡ t
+        → smallSteps s kind (n * suc (length (s .commands))) (at (expanded kind (s .commands) (getD rows row []) rows) (suc row) 0) .rows ≡ more
+        → smallSteps s kind (suc n * suc (length (s .commands))) (at rows row 0) .rows ≡ (more when ltb row (length rows) else rows)
+    by-test true e ih = rw (e, row-first s kind n rows row (ltb-true row (length rows) e)) ih
+    by-test false e ih = rw (e, steps-done s kind (suc n * suc (length (s .commands))) (at rows row 0) (ltb-false row (length rows) e))
+
+-- The small steps of a search list what the listing lists: so many rows take that many times the commands and one.
+pub small-steps-list : (s : Scheme) (kind n : ℕ) (start : Row)
+    → smallSteps s kind (n * suc (length (s .commands))) (at (start ∷ []) 0 0) .rows ≡ listing s kind start n
+unfolding listing
+small-steps-list s kind n start = listed-by-steps s kind n (start ∷ []) 0

@@ -1,0 +1,1 @@
+// Laws about the definitions of `model` that several crates cite. No code is here.
