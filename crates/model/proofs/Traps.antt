@@ -2,22 +2,20 @@
 -- Assumes nothing.
 use Prim.Native.Nat.{ℕ}
 use Prim.Native.String.{String}
-use mathlib.Core.Bool.{Bool, true, false}
 use mathlib.Core.List.{List, [], _∷_, _++_, map}
 use mathlib.Core.Path.{_≡_, refl}
 use lib.ListN.{replicate, length}
-use Rattle.model.specs.declared.Command.{Command}
-use Rattle.model.specs.Words.{_when_else_, numbersFrom, joined, text}
+use Rattle.model.specs.Words.{numbersFrom, joined, text}
 use Rattle.model.specs.Codes.{codeNumber, codeWords, codeAt}
-use Rattle.model.specs.Schemes.{Scheme, schemeNumber}
-use Rattle.model.specs.Rosters.{Person, rosterNumber}
+use Rattle.model.specs.Schemes.{schemeNumber}
+use Rattle.model.specs.Rosters.{Person}
 use Rattle.model.specs.Stores.{Design, storeNumber}
-use Rattle.model.specs.Requests.{Request, requestNumber, requested, batched}
+use Rattle.model.specs.Requests.{Request, requestNumber, batched}
 use Rattle.model.specs.Cards.{schemeCardNumber, rosterCardNumber, batchCardNumber}
 use Rattle.model.specs.Questions.{mayUseNumber, mayUse, shown}
 use Rattle.model.specs.Verdicts.{Question, createAskedNumber, verdictFrom, startOfCreate}
 use Rattle.model.specs.Lines.{batchText, verdictText, batchWanted, verdictWanted, decimal}
-use Rattle.model.specs.Mill.{schemeA, schemeC, commandsA, millScheme, command}
+use Rattle.model.specs.Mill.{schemeA, schemeC, millScheme, command}
 use Rattle.model.specs.Worked.{card, commandOnCard, personOnCard, requestOnCard, cardA, rosterCard, batchCard}
 use Rattle.model.proofs.Computes.{computes}
 

@@ -2,7 +2,7 @@
 -- "A *stand-in state* has one cell per type. Commands act on it as above, each type being one person": a row of eight cells.
 -- Assumes nothing.
 use Prim.Native.Nat.{ℕ, zero, suc}
-use mathlib.Core.Bool.{Bool, true, not, _&&_}
+use mathlib.Core.Bool.{Bool, true, _&&_}
 use mathlib.Core.List.{List, [], _∷_, _++_}
 use mathlib.Core.List.{List·Memᴰ}
 use mathlib.Core.Path.{_≡_}

@@ -1,11 +1,11 @@
 -- The question "may this person use this right on this design", and the access list.
 -- Assumes nothing.
 use Prim.Native.Nat.{ℕ}
-use mathlib.Core.Bool.{Bool, not, _&&_}
+use mathlib.Core.Bool.{not}
 use mathlib.Core.List.{List, [], _∷_, map}
 use lib.Dec.{ltb, eqb}
 use lib.ListN.{length}
-use Rattle.model.specs.Words.{_when_else_, _then_, those, joined, numbersFrom}
+use Rattle.model.specs.Words.{_when_else_, those, joined, numbersFrom}
 use Rattle.model.specs.Rights.{has}
 use Rattle.model.specs.Schemes.{Scheme}
 use Rattle.model.specs.Rosters.{Person}

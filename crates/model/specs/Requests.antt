@@ -1,10 +1,10 @@
 -- A request and a batch of them: the number that is given back, and the store afterwards.
 -- Assumes nothing.
 use Prim.Native.Nat.{ℕ}
-use mathlib.Core.Bool.{Bool, not, _&&_, _||_}
+use mathlib.Core.Bool.{Bool, not, _&&_}
 use mathlib.Core.List.{List, [], _∷_, _++_}
 use lib.Dec.{leb, ltb, eqb}
-use lib.ListN.{length, getD, set}
+use lib.ListN.{length, set}
 use Rattle.model.specs.declared.Command.{Command}
 use Rattle.model.specs.Words.{_when_else_, those}
 use Rattle.model.specs.Sizes.{mostPeople, mostDesigns}

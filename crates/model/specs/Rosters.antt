@@ -5,7 +5,7 @@ use mathlib.Core.Bool.{Bool, not, _||_}
 use mathlib.Core.List.{List, [], _∷_, map}
 use lib.Dec.{ltb}
 use lib.ListN.{length, getD, drop}
-use Rattle.model.specs.Words.{_when_else_, between, all, any, joined, groups, allDiffer}
+use Rattle.model.specs.Words.{_when_else_, between, any, joined, groups, allDiffer}
 use Rattle.model.specs.Sizes.{mostPeople, personWords}
 use Rattle.model.specs.Codes.{spelled, codeWords, codeAt}
 use Rattle.model.specs.Schemes.{Scheme}

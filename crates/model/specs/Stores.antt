@@ -4,7 +4,7 @@ use Prim.Native.Nat.{ℕ}
 use mathlib.Core.Bool.{Bool, not, _&&_}
 use mathlib.Core.List.{List, [], _∷_, _++_, map}
 use lib.Dec.{leb, ltb, eqb}
-use lib.ListN.{length, getD, drop, take}
+use lib.ListN.{length, getD, drop}
 use Rattle.model.specs.Words.{_when_else_, _then_, all, firstPlace, same, allDiffer, joined, groups, writtenOver}
 use Rattle.model.specs.Sizes.{mostDesigns, designWords}
 use Rattle.model.specs.Rights.{fitsRights}

@@ -7,13 +7,13 @@ use lib.Dec.{leb, ltb, eqb}
 use lib.ListN.{length, getD, take}
 use Rattle.model.specs.declared.Command.{Command}
 use Rattle.model.specs.declared.Verdict.{Verdict}
-use Rattle.model.specs.Words.{_when_else_, _then_, between, any, firstPlace, joined, writtenOver}
+use Rattle.model.specs.Words.{_when_else_, between, any, firstPlace, joined, writtenOver}
 use Rattle.model.specs.Sizes.{mostStates, rowWords}
 use Rattle.model.specs.Rights.{has}
 use Rattle.model.specs.Schemes.{Scheme, isCreate, commandAt}
 use Rattle.model.specs.Rosters.{Person}
 use Rattle.model.specs.Forms.{cellAt}
-use Rattle.model.specs.Stores.{Design, designAt, namedNumber}
+use Rattle.model.specs.Stores.{Design, namedNumber}
 use Rattle.model.specs.Kinds.{firstNotNormal, overlaps, rowOfCreate, rowOfDesign}
 use Rattle.model.specs.Listing.{Row, listing, firstDuplicate, hasDuplicate}
 
