@@ -1,1 +1,6 @@
+pub mod Tests
+pub mod Bits
+pub mod Lists
+pub mod Digits
+pub mod Codes
 pub mod Listing

@@ -12,7 +12,7 @@ use lib.Seq.{drop-cons}
 use borrow.Author.Tests.{le-leb, lt-leb, ltb-true, ltb-false}
 use Rattle.model.specs.declared.Command.{Command}
 use Rattle.model.specs.Words.{_when_else_, any, same}
-use Rattle.model.specs.Schemes.{Scheme, commandAt, noCommand}
+use Rattle.model.specs.Schemes.{commandIn, noCommand}
 use Rattle.model.specs.Listing.{Row, fires, moved, put, tried, expanded, listedFrom, listing, Search, smallStep, smallSteps}
 
 -- rows, with more put at the end
@@ -57,77 +57,77 @@ grown-longer {rows} g = omega (arith, ap (λ (l : List Row). length l) (g .is) �
 
 -- ---- small steps
 
-steps-add : (s : Scheme) (kind m n : ℕ) (p : Search) → smallSteps s kind (m + n) p ≡ smallSteps s kind n (smallSteps s kind m p)
+steps-add : (commands : List Command) (kind m n : ℕ) (p : Search) → smallSteps commands kind (m + n) p ≡ smallSteps commands kind n (smallSteps commands kind m p)
 unfolding smallSteps
-steps-add s kind zero n p = rw zero-add
-steps-add s kind (suc m) n p = rw suc-add (steps-add s kind m n (smallStep s kind p))
+steps-add commands kind zero n p = rw zero-add
+steps-add commands kind (suc m) n p = rw suc-add (steps-add commands kind m n (smallStep commands kind p))
 
 abbrev pub at : List Row → ℕ → ℕ → Search
 at rows row command = record { rows = rows; row = row; command = command }
 
 -- past the last listed row nothing moves
-pub step-done : (s : Scheme) (kind : ℕ) (p : Search) → length (p .rows) ≤ p .row → smallStep s kind p ≡ p
+pub step-done : (commands : List Command) (kind : ℕ) (p : Search) → length (p .rows) ≤ p .row → smallStep commands kind p ≡ p
 unfolding smallStep
-step-done s kind p h = rw (le-leb (length (p .rows)) (p .row) h)
+step-done commands kind p h = rw (le-leb (length (p .rows)) (p .row) h)
 
-pub steps-done : (s : Scheme) (kind n : ℕ) (p : Search) → length (p .rows) ≤ p .row → smallSteps s kind n p ≡ p
+pub steps-done : (commands : List Command) (kind n : ℕ) (p : Search) → length (p .rows) ≤ p .row → smallSteps commands kind n p ≡ p
 unfolding smallSteps
-steps-done s kind zero p h = refl
-steps-done s kind (suc n) p h = rw (step-done s kind p h) (steps-done s kind n p h)
+steps-done commands kind zero p h = refl
+steps-done commands kind (suc n) p h = rw (step-done commands kind p h) (steps-done commands kind n p h)
 
-pub step-next-row : (s : Scheme) (kind : ℕ) (rows : List Row) (row command : ℕ) → row < length rows → length (s .commands) ≤ command
-    → smallStep s kind (at rows row command) ≡ at rows (suc row) 0
+pub step-next-row : (commands : List Command) (kind : ℕ) (rows : List Row) (row command : ℕ) → row < length rows → length commands ≤ command
+    → smallStep commands kind (at rows row command) ≡ at rows (suc row) 0
 unfolding smallStep
-step-next-row s kind rows row command h l = rw (lt-leb (length rows) row h, le-leb (length (s .commands)) command l)
+step-next-row commands kind rows row command h l = rw (lt-leb (length rows) row h, le-leb (length commands) command l)
 
-pub step-tries : (s : Scheme) (kind : ℕ) (rows : List Row) (row command : ℕ) → row < length rows → command < length (s .commands)
-    → smallStep s kind (at rows row command) ≡ at (tried kind (commandAt s command) (getD rows row []) rows) row (suc command)
+pub step-tries : (commands : List Command) (kind : ℕ) (rows : List Row) (row command : ℕ) → row < length rows → command < length commands
+    → smallStep commands kind (at rows row command) ≡ at (tried kind (commandIn commands command) (getD rows row []) rows) row (suc command)
 unfolding smallStep
-step-tries s kind rows row command h l = rw (lt-leb (length rows) row h, lt-leb (length (s .commands)) command l)
+step-tries commands kind rows row command h l = rw (lt-leb (length rows) row h, lt-leb (length commands) command l)
 
 -- the commands that are left of a row, j of them, and the step to the next row
-row-done : (s : Scheme) (kind j k : ℕ) (rows : List Row) (row : ℕ) → row < length rows → k + j ≡ length (s .commands)
-    → smallSteps s kind (suc j) (at rows row k) ≡ at (expanded kind (drop k (s .commands)) (getD rows row []) rows) (suc row) 0
+row-done : (commands : List Command) (kind j k : ℕ) (rows : List Row) (row : ℕ) → row < length rows → k + j ≡ length commands
+    → smallSteps commands kind (suc j) (at rows row k) ≡ at (expanded kind (drop k commands) (getD rows row []) rows) (suc row) 0
 unfolding smallSteps expanded
-row-done s kind zero k rows row h e =
-    rw (step-next-row s kind rows row k h (omega arith), drop-of-length-le (s .commands) {i = k} (omega arith))
-row-done s kind (suc j) k rows row h e =
-    let more = tried kind (commandAt s k) (getD rows row []) rows in
-    let g = tried-grows kind (commandAt s k) (getD rows row []) rows in
-    let l : k < length (s .commands) = omega arith in
-    rw (step-tries s kind rows row k h l, drop-cons (s .commands) k noCommand l)
-    (row-done s kind j (suc k) more row (omega (arith, grown-longer g)) (omega arith)
-    ∙ ap (λ (r : Row). at (expanded kind (drop (suc k) (s .commands)) r more) (suc row) 0) (grown-keeps g row h))
+row-done commands kind zero k rows row h e =
+    rw (step-next-row commands kind rows row k h (omega arith), drop-of-length-le commands {i = k} (omega arith))
+row-done commands kind (suc j) k rows row h e =
+    let more = tried kind (commandIn commands k) (getD rows row []) rows in
+    let g = tried-grows kind (commandIn commands k) (getD rows row []) rows in
+    let l : k < length commands = omega arith in
+    rw (step-tries commands kind rows row k h l, drop-cons commands k noCommand l)
+    (row-done commands kind j (suc k) more row (omega (arith, grown-longer g)) (omega arith)
+    ∙ ap (λ (r : Row). at (expanded kind (drop (suc k) commands) r more) (suc row) 0) (grown-keeps g row h))
 
 -- a listed row is gone through in one small step for each command, and one more
-row-first : (s : Scheme) (kind n : ℕ) (rows : List Row) (row : ℕ) → row < length rows
-    → smallSteps s kind (suc n * suc (length (s .commands))) (at rows row 0)
-    ≡ smallSteps s kind (n * suc (length (s .commands))) (at (expanded kind (s .commands) (getD rows row []) rows) (suc row) 0)
-row-first s kind n rows row h =
-    let m = suc (length (s .commands)) in
-    ap (λ (k : ℕ). smallSteps s kind k (at rows row 0)) (suc-mul n m ∙ add-comm (n * m) m)
-    ∙ steps-add s kind m (n * m) (at rows row 0)
-    ∙ ap (smallSteps s kind (n * m)) (row-done s kind (length (s .commands)) 0 rows row h (zero-add (length (s .commands))))
+row-first : (commands : List Command) (kind n : ℕ) (rows : List Row) (row : ℕ) → row < length rows
+    → smallSteps commands kind (suc n * suc (length commands)) (at rows row 0)
+    ≡ smallSteps commands kind (n * suc (length commands)) (at (expanded kind commands (getD rows row []) rows) (suc row) 0)
+row-first commands kind n rows row h =
+    let m = suc (length commands) in
+    ap (λ (k : ℕ). smallSteps commands kind k (at rows row 0)) (suc-mul n m ∙ add-comm (n * m) m)
+    ∙ steps-add commands kind m (n * m) (at rows row 0)
+    ∙ ap (smallSteps commands kind (n * m)) (row-done commands kind (length commands) 0 rows row h (zero-add (length commands)))
 
 -- the next n rows, from any row on
-listed-by-steps : (s : Scheme) (kind n : ℕ) (rows : List Row) (row : ℕ)
-    → smallSteps s kind (n * suc (length (s .commands))) (at rows row 0) .rows ≡ listedFrom s kind n row rows
+listed-by-steps : (commands : List Command) (kind n : ℕ) (rows : List Row) (row : ℕ)
+    → smallSteps commands kind (n * suc (length commands)) (at rows row 0) .rows ≡ listedFrom commands kind n row rows
 unfolding listedFrom smallSteps
-listed-by-steps s kind zero rows row = rw (zero-mul (suc (length (s .commands))))
-listed-by-steps s kind (suc n) rows row =
-    by-test (ltb row (length rows)) refl (listed-by-steps s kind n (expanded kind (s .commands) (getD rows row []) rows) (suc row))
+listed-by-steps commands kind zero rows row = rw (zero-mul (suc (length commands)))
+listed-by-steps commands kind (suc n) rows row =
+    by-test (ltb row (length rows)) refl (listed-by-steps commands kind n (expanded kind commands (getD rows row []) rows) (suc row))
   where
     more : List Row
-    more = listedFrom s kind n (suc row) (expanded kind (s .commands) (getD rows row []) rows)
+    more = listedFrom commands kind n (suc row) (expanded kind commands (getD rows row []) rows)
 
     by-test : (t : Bool) → ltb row (length rows) ≡ t
-        → smallSteps s kind (n * suc (length (s .commands))) (at (expanded kind (s .commands) (getD rows row []) rows) (suc row) 0) .rows ≡ more
-        → smallSteps s kind (suc n * suc (length (s .commands))) (at rows row 0) .rows ≡ (more when ltb row (length rows) else rows)
-    by-test true e ih = rw (e, row-first s kind n rows row (ltb-true row (length rows) e)) ih
-    by-test false e ih = rw (e, steps-done s kind (suc n * suc (length (s .commands))) (at rows row 0) (ltb-false row (length rows) e))
+        → smallSteps commands kind (n * suc (length commands)) (at (expanded kind commands (getD rows row []) rows) (suc row) 0) .rows ≡ more
+        → smallSteps commands kind (suc n * suc (length commands)) (at rows row 0) .rows ≡ (more when ltb row (length rows) else rows)
+    by-test true e ih = rw (e, row-first commands kind n rows row (ltb-true row (length rows) e)) ih
+    by-test false e ih = rw (e, steps-done commands kind (suc n * suc (length commands)) (at rows row 0) (ltb-false row (length rows) e))
 
 -- The small steps of a search list what the listing lists: so many rows take that many times the commands and one.
-pub small-steps-list : (s : Scheme) (kind n : ℕ) (start : Row)
-    → smallSteps s kind (n * suc (length (s .commands))) (at (start ∷ []) 0 0) .rows ≡ listing s kind start n
+pub small-steps-list : (commands : List Command) (kind n : ℕ) (start : Row)
+    → smallSteps commands kind (n * suc (length commands)) (at (start ∷ []) 0 0) .rows ≡ listing commands kind start n
 unfolding listing
-small-steps-list s kind n start = listed-by-steps s kind n (start ∷ []) 0
+small-steps-list commands kind n start = listed-by-steps commands kind n (start ∷ []) 0

@@ -15,7 +15,7 @@ use Rattle.model.specs.Cards.{schemeCardNumber, rosterCardNumber, batchC
 use Rattle.model.specs.Questions.{mayUseNumber, mayUse, shown}
 use Rattle.model.specs.Verdicts.{Question, createAskedNumber, verdictFrom, startOfCreate}
 use Rattle.model.specs.Lines.{batchText, verdictText, batchWanted, verdictWanted, decimal}
-use Rattle.model.specs.Mill.{schemeA, schemeC, millScheme, command}
+use Rattle.model.specs.Mill.{schemeA, commandsC, millScheme, command}
 use Rattle.model.specs.Worked.{card, commandOnCard, personOnCard, requestOnCard, cardA, rosterCard, batchCard}
 use Rattle.model.proofs.Computes.{computes}
 
@@ -159,16 +159,16 @@ unfolding computes
 stores-afterwards = refl
 
 stores : Right
-    (storeNumber schemeA 3 [] be 0
-    ∷ storeNumber schemeA 3 full be 0
-    ∷ storeNumber schemeA 3 (full ++ (design 0 "E" (replicate 32 0) ∷ [])) be 21
-    ∷ storeNumber schemeA 3 one be 21
-    ∷ storeNumber schemeA 3 (design 0 "w" (replicate 32 0) ∷ []) be 21
-    ∷ storeNumber schemeA 3 (design 0 "W" (replicate 32 0) ∷ design 0 "W" (replicate 32 0) ∷ []) be 21
-    ∷ storeNumber schemeA 3 (design 0 "W" (0xFF ∷ replicate 31 0) ∷ []) be 0
-    ∷ storeNumber schemeA 3 (design 0 "W" (0x100 ∷ replicate 31 0) ∷ []) be 21
-    ∷ storeNumber schemeA 3 (design 0 "W" (0 ∷ 0 ∷ 0 ∷ 1 ∷ replicate 28 0) ∷ []) be 21
-    ∷ storeNumber schemeA 4 (design 0 "W" (0 ∷ 0 ∷ 0 ∷ 1 ∷ replicate 28 0) ∷ []) be 0
+    (storeNumber 1 8 3 [] be 0
+    ∷ storeNumber 1 8 3 full be 0
+    ∷ storeNumber 1 8 3 (full ++ (design 0 "E" (replicate 32 0) ∷ [])) be 21
+    ∷ storeNumber 1 8 3 one be 21
+    ∷ storeNumber 1 8 3 (design 0 "w" (replicate 32 0) ∷ []) be 21
+    ∷ storeNumber 1 8 3 (design 0 "W" (replicate 32 0) ∷ design 0 "W" (replicate 32 0) ∷ []) be 21
+    ∷ storeNumber 1 8 3 (design 0 "W" (0xFF ∷ replicate 31 0) ∷ []) be 0
+    ∷ storeNumber 1 8 3 (design 0 "W" (0x100 ∷ replicate 31 0) ∷ []) be 21
+    ∷ storeNumber 1 8 3 (design 0 "W" (0 ∷ 0 ∷ 0 ∷ 1 ∷ replicate 28 0) ∷ []) be 21
+    ∷ storeNumber 1 8 4 (design 0 "W" (0 ∷ 0 ∷ 0 ∷ 1 ∷ replicate 28 0) ∷ []) be 0
     -- a code in three words: all zeros, or a zero inside, is a bad one
     ∷ codeNumber (codeAt (0 ∷ 0 ∷ 0 ∷ [])) be 4
     ∷ codeNumber (codeAt (0x41004200 ∷ 0 ∷ 0 ∷ [])) be 4
@@ -192,9 +192,9 @@ verdicts : Right
     ∷ createAskedNumber schemeA 1 (at-most 0 0 1) 8 be 15
     ∷ createAskedNumber schemeA 7 (at-most 0 0 1) 8 be 15
     -- 16 is per kind: C's fault is in kind 0, and a create of another kind is not touched by it
-    ∷ verdictFrom schemeC (startOfCreate (record { form = 1; source = 0; destination = 0; kind = 1; x = 0; y = 0; z = 1 })) (at-most 0 0 1) .number be 0
+    ∷ verdictFrom commandsC (startOfCreate (record { form = 1; source = 0; destination = 0; kind = 1; x = 0; y = 0; z = 1 })) (at-most 0 0 1) .number be 0
     -- X = 0 always fires
-    ∷ verdictFrom (millScheme (command 1 0 0 0 0 0 ∷ command 3 1 1 0 0 1 ∷ [])) (startOfCreate (command 1 0 0 0 0 0)) (at-most 1 0 2) .states be 2
+    ∷ verdictFrom (command 1 0 0 0 0 0 ∷ command 3 1 1 0 0 1 ∷ []) (startOfCreate (command 1 0 0 0 0 0)) (at-most 1 0 2) .states be 2
     ∷ [])
 unfolding computes
 verdicts = refl

@@ -119,7 +119,7 @@ unfoldable pub rosterCardNumber : Scheme → List ℕ → ℕ
 rosterCardNumber s card =
     1 when not (isRosterCard card) else
     2 when not (eqb (schemeNumber s) 0) else
-    rosterNumber s (peopleOf card)
+    rosterNumber (s .types) (peopleOf card)
 
 unfoldable pub batchCardNumber : List ℕ → ℕ
 batchCardNumber card =

@@ -37,9 +37,9 @@ fields v = v .number ∷ v .states ∷ v .held ∷ v .state ∷ v .command ∷ [
 unfoldable pub outcome : Asked → List ℕ
 outcome (fromCreate s type right budget) =
     let q = question type right budget in
-    fields (verdictAnswer (createCallNumber s 0 q (replicate (rowWords * budget) 0)) (verdictFrom s (startOfCreate (commandAt s 0)) q))
+    fields (verdictAnswer (createCallNumber s 0 q (replicate (rowWords * budget) 0)) (verdictFrom (s .commands) (startOfCreate (commandAt s 0)) q))
 outcome (fromDesign s type right budget people cells) =
-    fields (verdictFrom s (startOfDesign s people (record { kind = 0; code = text "W-104"; cells = cells })) (question type right budget))
+    fields (verdictFrom (s .commands) (startOfDesign (s .commands) people (record { kind = 0; code = text "W-104"; cells = cells })) (question type right budget))
 outcome (byOne c cell) = act c 0 0 (cell ∷ [])
 outcome (code bytes) = codeNumber bytes ∷ []
 

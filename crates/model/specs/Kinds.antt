@@ -9,7 +9,7 @@ use Rattle.model.specs.declared.Command.{Command}
 use Rattle.model.specs.Words.{any, those, firstPlace, numbersFrom}
 use Rattle.model.specs.Sizes.{rowWords}
 use Rattle.model.specs.Rights.{within, common, meets, together}
-use Rattle.model.specs.Schemes.{Scheme, isGrant, isInternal}
+use Rattle.model.specs.Schemes.{isGrant, isInternal}
 use Rattle.model.specs.Rosters.{Person, typeAt}
 use Rattle.model.specs.Forms.{cellAt, created}
 
@@ -17,40 +17,40 @@ use Rattle.model.specs.Forms.{cellAt, created}
 unfoldable pub isStep : ℕ → Command → Bool
 isStep kind c = eqb (c .kind) kind && (isGrant c || isInternal c)
 
-unfoldable pub stepsOf : Scheme → ℕ → List Command
-stepsOf s kind = those (isStep kind) (s .commands)
+unfoldable pub stepsOf : List Command → ℕ → List Command
+stepsOf commands kind = those (isStep kind) commands
 
 -- "A *propagation* right stands in X of one of its grants or internals."
-unfoldable pub propagation : Scheme → ℕ → ℕ
-propagation s kind = together (map (λ c. c .x) (stepsOf s kind))
+unfoldable pub propagation : List Command → ℕ → ℕ
+propagation commands kind = together (map (λ c. c .x) (stepsOf commands kind))
 
 -- "A *deletable* right stands in Y of one."
-unfoldable pub deletable : Scheme → ℕ → ℕ
-deletable s kind = together (map (λ c. c .y) (stepsOf s kind))
+unfoldable pub deletable : List Command → ℕ → ℕ
+deletable commands kind = together (map (λ c. c .y) (stepsOf commands kind))
 
 -- the rights that are both propagation and deletable
-unfoldable pub both : Scheme → ℕ → ℕ
-both s kind = common (propagation s kind) (deletable s kind)
+unfoldable pub both : List Command → ℕ → ℕ
+both commands kind = common (propagation commands kind) (deletable commands kind)
 
 -- "A command is *normal* if every propagation right in its Y is also in its X."
-unfoldable pub isNormal : Scheme → ℕ → Command → Bool
-isNormal s kind c = within (common (c .y) (propagation s kind)) (c .x)
+unfoldable pub isNormal : List Command → ℕ → Command → Bool
+isNormal commands kind c = within (common (c .y) (propagation commands kind)) (c .x)
 
 -- 16: "a command of the kind isn't normal (command: the first)"
-unfoldable pub firstNotNormal : Scheme → ℕ → ℕ
-firstNotNormal s kind = firstPlace (λ c. isStep kind c && not (isNormal s kind c)) (s .commands)
+unfoldable pub firstNotNormal : List Command → ℕ → ℕ
+firstNotNormal commands kind = firstPlace (λ c. isStep kind c && not (isNormal commands kind c)) commands
 
 -- "*Overlap*: in such a design, two people of one type hold the same right that is both propagation and deletable."
-unfoldable pub clash : Scheme → ℕ → List Person → List ℕ → ℕ → ℕ → Bool
-clash s kind people cells a b =
+unfoldable pub clash : List Command → ℕ → List Person → List ℕ → ℕ → ℕ → Bool
+clash commands kind people cells a b =
     ltb a b
     && eqb (typeAt people a) (typeAt people b)
-    && meets (common (cellAt cells a) (cellAt cells b)) (both s kind)
+    && meets (common (cellAt cells a) (cellAt cells b)) (both commands kind)
 
-unfoldable pub overlaps : Scheme → ℕ → List Person → List ℕ → Bool
-overlaps s kind people cells =
+unfoldable pub overlaps : List Command → ℕ → List Person → List ℕ → Bool
+overlaps commands kind people cells =
     let everybody = numbersFrom 0 (length people) in
-    any (λ a. any (clash s kind people cells a) everybody) everybody
+    any (λ a. any (clash commands kind people cells a) everybody) everybody
 
 -- "for each type, all rights of its people put together"
 unfoldable pub ofType : List Person → List ℕ → ℕ → ℕ

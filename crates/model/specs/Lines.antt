@@ -128,13 +128,13 @@ wholeQuestion = record { type = 0; right = 0; budget = mostStates }
 -- "T, type, all rights ever listed at it"
 unfoldable pub linesT : Scheme → Command → List ℕ
 linesT s c =
-    let rows = rowsFrom s (startOfCreate c) mostStates in
+    let rows = rowsFrom (s .commands) (startOfCreate c) mostStates in
     joined (map (λ t. line "T" (decimal t ∷ hexadecimal (together (map (λ row. cellAt row t) rows)) ∷ [])) (numbersFrom 0 (s .types)))
 
 -- "prints C, command, answer, states; with answer 0, then T"
 unfoldable pub linesC : Scheme → ℕ → Command → List ℕ
 linesC s k c =
-    let v = verdictFrom s (startOfCreate c) wholeQuestion in
+    let v = verdictFrom (s .commands) (startOfCreate c) wholeQuestion in
     let theirs = linesT s c in
     line "C" (decimal k ∷ decimal (v .number) ∷ decimal (v .states) ∷ []) ++ (theirs when eqb (v .number) 0 else [])
 
@@ -156,9 +156,9 @@ unfoldable pub verdictWanted : List ℕ → ℕ
 verdictWanted stream = cardWanted stream
 
 -- the table after the listings of all creates, one over the other
-unfoldable pub tableAfterCreates : Scheme → List Command → List ℕ → List ℕ
-tableAfterCreates s [] table = table
-tableAfterCreates s (c ∷ cs) table = tableAfterCreates s cs (tableAfter s (startOfCreate c) wholeQuestion table when isCreate c else table)
+unfoldable pub tableAfterCreates : List Command → List Command → List ℕ → List ℕ
+tableAfterCreates commands [] table = table
+tableAfterCreates commands (c ∷ cs) table = tableAfterCreates commands cs (tableAfter commands (startOfCreate c) wholeQuestion table when isCreate c else table)
 
 -- ---- batch_text: 20, and verdict_text: 20, 15
 
@@ -192,7 +192,7 @@ verdictTextNumber table text =
 -- a refused card's line is text too; its table is left as found
 unfoldable pub tableOfStream : List ℕ → List ℕ → List ℕ
 tableOfStream stream table =
-    tableAfterCreates (schemeOf (cardOf stream)) (schemeOf (cardOf stream) .commands) table when eqb (schemeCardNumber (cardOf stream)) 0 else
+    tableAfterCreates (schemeOf (cardOf stream) .commands) (schemeOf (cardOf stream) .commands) table when eqb (schemeCardNumber (cardOf stream)) 0 else
     table
 
 pub record VerdictTextOutcome (stream table text : List ℕ) (answer : Text) (tableExit textExit : List ℕ) : Type 0 where

@@ -11,7 +11,7 @@ use lib.ListN.{length, getD}
 use Rattle.model.specs.declared.Command.{Command}
 use Rattle.model.specs.Words.{_when_else_, any, firstPlace, same}
 use Rattle.model.specs.Rights.{meets, common}
-use Rattle.model.specs.Schemes.{Scheme, commandAt}
+use Rattle.model.specs.Schemes.{commandIn}
 use Rattle.model.specs.Forms.{cellAt, held, lose, act}
 use Rattle.model.specs.Kinds.{isStep, both}
 
@@ -44,16 +44,16 @@ expanded kind [] row rows = rows
 expanded kind (c ∷ cs) row rows = expanded kind cs row (tried kind c row rows)
 
 -- "For each listed state in order", of the next n from state `at` on
-unfoldable pub listedFrom : Scheme → ℕ → ℕ → ℕ → List Row → List Row
-listedFrom s kind zero at rows = rows
-listedFrom s kind (suc n) at rows =
-    let more = listedFrom s kind n (suc at) (expanded kind (s .commands) (getD rows at []) rows) in
+unfoldable pub listedFrom : List Command → ℕ → ℕ → ℕ → List Row → List Row
+listedFrom commands kind zero at rows = rows
+listedFrom commands kind (suc n) at rows =
+    let more = listedFrom commands kind n (suc at) (expanded kind commands (getD rows at []) rows) in
     more when ltb at (length rows) else
     rows
 
 -- "the start is state 0". So many states are gone through; the listing has no more than those exactly if its length is at most that many.
-unfoldable pub listing : Scheme → ℕ → Row → ℕ → List Row
-listing s kind start most = listedFrom s kind most 0 (start ∷ [])
+unfoldable pub listing : List Command → ℕ → Row → ℕ → List Row
+listing commands kind start most = listedFrom commands kind most 0 (start ∷ [])
 
 -- "one small record of its progress, moved on in place: rows listed, row at hand, command at hand"
 pub record Search : Type 0 where
@@ -62,32 +62,32 @@ pub record Search : Type 0 where
   pub command : ℕ
 
 -- one small step: the command at hand is tried on the row at hand, and after the last command the next row is at hand
-unfoldable pub smallStep : Scheme → ℕ → Search → Search
-smallStep s kind p =
+unfoldable pub smallStep : List Command → ℕ → Search → Search
+smallStep commands kind p =
     p when leb (length (p .rows)) (p .row) else
-    record { rows = p .rows; row = suc (p .row); command = 0 } when leb (length (s .commands)) (p .command) else
+    record { rows = p .rows; row = suc (p .row); command = 0 } when leb (length commands) (p .command) else
     record {
-      rows = tried kind (commandAt s (p .command)) (getD (p .rows) (p .row) []) (p .rows);
+      rows = tried kind (commandIn commands (p .command)) (getD (p .rows) (p .row) []) (p .rows);
       row = p .row;
       command = suc (p .command);
     }
 
-unfoldable pub smallSteps : Scheme → ℕ → ℕ → Search → Search
-smallSteps s kind zero p = p
-smallSteps s kind (suc n) p = smallSteps s kind n (smallStep s kind p)
+unfoldable pub smallSteps : List Command → ℕ → ℕ → Search → Search
+smallSteps commands kind zero p = p
+smallSteps commands kind (suc n) p = smallSteps commands kind n (smallStep commands kind p)
 
 -- the states that some run of steps reaches from the start
-pub data Reach (s : Scheme) (kind : ℕ) (start : Row) : Row → Type 0 where
-  here : Reach s kind start start
-  next : {row : Row} (c : Command) → Reach s kind start row → List·Memᴰ c (s .commands) → fires kind c row ≡ true → Reach s kind start (moved c row)
+pub data Reach (commands : List Command) (kind : ℕ) (start : Row) : Row → Type 0 where
+  here : Reach commands kind start start
+  next : {row : Row} (c : Command) → Reach commands kind start row → List·Memᴰ c commands → fires kind c row ≡ true → Reach commands kind start (moved c row)
 
 -- "A step is *duplicate* if, after the loss, the destination type still holds a right of Z that is both propagation and deletable."
-unfoldable pub isDuplicate : Scheme → ℕ → Command → Row → Bool
-isDuplicate s kind c row = meets (common (cellAt (lose c (c .source) row) (c .destination)) (c .z)) (both s kind)
+unfoldable pub isDuplicate : List Command → ℕ → Command → Row → Bool
+isDuplicate commands kind c row = meets (common (cellAt (lose c (c .source) row) (c .destination)) (c .z)) (both commands kind)
 
 -- the first command that is a duplicate step in this state, and the length of the commands where none is
-unfoldable pub firstDuplicate : Scheme → ℕ → Row → ℕ
-firstDuplicate s kind row = firstPlace (λ c. fires kind c row && isDuplicate s kind c row) (s .commands)
+unfoldable pub firstDuplicate : List Command → ℕ → Row → ℕ
+firstDuplicate commands kind row = firstPlace (λ c. fires kind c row && isDuplicate commands kind c row) commands
 
-unfoldable pub hasDuplicate : Scheme → ℕ → Row → Bool
-hasDuplicate s kind row = ltb (firstDuplicate s kind row) (length (s .commands))
+unfoldable pub hasDuplicate : List Command → ℕ → Row → Bool
+hasDuplicate commands kind row = ltb (firstDuplicate commands kind row) (length commands)

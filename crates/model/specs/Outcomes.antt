@@ -90,8 +90,8 @@ hasRooms h = hasRoom rosterRoom (h .roster) && hasRoom storeRoom (h .store)
 unfoldable pub handedNumber : Handed → ℕ
 handedNumber h =
     schemeNumber (h .scheme) then
-    rosterNumber (h .scheme) (peopleIn h) then
-    storeNumber (h .scheme) (h .count) (designsIn h)
+    rosterNumber (h .scheme .types) (peopleIn h) then
+    storeNumber (h .scheme .kinds) (h .scheme .rights) (h .count) (designsIn h)
 
 -- ---- request: 20, 2, 3, 4, 5, 21, then 6, 7, 8, 9, 4, and 10, 11 or 12, 13, 14
 
@@ -176,8 +176,8 @@ createCallNumber s command q table =
     createAskedNumber s command q (length table)
 
 pub record VerdictOfCreateOutcome (s : Scheme) (command : ℕ) (q : Question) (table : List ℕ) (answer : Verdict) (tableExit : List ℕ) : Type 0 where
-  pub answer-is : answer ≡ verdictAnswer (createCallNumber s command q table) (verdictFrom s (startOfCreate (commandAt s command)) q)
-  pub table-is : tableExit ≡ onDone (createCallNumber s command q table) (tableAfter s (startOfCreate (commandAt s command)) q table) table
+  pub answer-is : answer ≡ verdictAnswer (createCallNumber s command q table) (verdictFrom (s .commands) (startOfCreate (commandAt s command)) q)
+  pub table-is : tableExit ≡ onDone (createCallNumber s command q table) (tableAfter (s .commands) (startOfCreate (commandAt s command)) q table) table
 
 unfoldable pub designCallNumber : Handed → List ℕ → Question → List ℕ → ℕ
 designCallNumber h code q table =
@@ -186,8 +186,8 @@ designCallNumber h code q table =
     designAskedNumber (h .scheme) (designsIn h) code q (length table)
 
 abbrev pub startIn : Handed → List ℕ → Start
-startIn h code = startOfDesign (h .scheme) (peopleIn h) (designAt code (designsIn h))
+startIn h code = startOfDesign (h .scheme .commands) (peopleIn h) (designAt code (designsIn h))
 
 pub record VerdictOfDesignOutcome (h : Handed) (code : List ℕ) (q : Question) (table : List ℕ) (answer : Verdict) (tableExit : List ℕ) : Type 0 where
-  pub answer-is : answer ≡ verdictAnswer (designCallNumber h code q table) (verdictFrom (h .scheme) (startIn h code) q)
-  pub table-is : tableExit ≡ onDone (designCallNumber h code q table) (tableAfter (h .scheme) (startIn h code) q table) table
+  pub answer-is : answer ≡ verdictAnswer (designCallNumber h code q table) (verdictFrom (h .scheme .commands) (startIn h code) q)
+  pub table-is : tableExit ≡ onDone (designCallNumber h code q table) (tableAfter (h .scheme .commands) (startIn h code) q table) table

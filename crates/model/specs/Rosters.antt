@@ -8,7 +8,6 @@ use lib.ListN.{length, getD, drop}
 use Rattle.model.specs.Words.{_when_else_, between, any, joined, groups, allDiffer}
 use Rattle.model.specs.Sizes.{mostPeople, personWords}
 use Rattle.model.specs.Codes.{spelled, codeWords, codeAt}
-use Rattle.model.specs.Schemes.{Scheme}
 
 pub record Person : Type 0 where
   pub type : ℕ
@@ -22,13 +21,13 @@ abbrev pub typeAt : List Person → ℕ → ℕ
 typeAt people p = getD people p nobody .type
 
 -- 3: "a roster's count, or a type in it by the scheme, is out of range"
-unfoldable pub outOfRange : Scheme → List Person → Bool
-outOfRange s people = not (between 1 mostPeople (length people)) || any (λ p. not (ltb (p .type) (s .types))) people
+unfoldable pub outOfRange : ℕ → List Person → Bool
+outOfRange types people = not (between 1 mostPeople (length people)) || any (λ p. not (ltb (p .type) types)) people
 
 -- 4: "a code breaks the spelling"; 5: "two people have one code"
-unfoldable pub rosterNumber : Scheme → List Person → ℕ
-rosterNumber s people =
-    3 when outOfRange s people else
+unfoldable pub rosterNumber : ℕ → List Person → ℕ
+rosterNumber types people =
+    3 when outOfRange types people else
     4 when any (λ p. not (spelled (p .code))) people else
     5 when not (allDiffer (map (λ p. p .code) people)) else
     0

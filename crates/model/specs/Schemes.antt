@@ -31,19 +31,22 @@ isInternal c = eqb (c .form) 3
 abbrev pub noCommand : Command
 noCommand = record { form = 0; source = 0; destination = 0; kind = 0; x = 0; y = 0; z = 0 }
 
+abbrev pub commandIn : List Command → ℕ → Command
+commandIn commands k = getD commands k noCommand
+
 abbrev pub commandAt : Scheme → ℕ → Command
-commandAt s k = getD (s .commands) k noCommand
+commandAt s k = commandIn (s .commands) k
 
 -- "For forms 1 and 3 the destination byte equals the source byte. For form 1, X and Y are 0. Equal commands may stand twice."
-unfoldable pub commandIsValid : Scheme → Command → Bool
-commandIsValid s c =
+unfoldable pub commandIsValid : ℕ → ℕ → ℕ → Command → Bool
+commandIsValid types kinds rights c =
     between 1 3 (c .form)
-    && ltb (c .source) (s .types)
-    && ltb (c .destination) (s .types)
-    && ltb (c .kind) (s .kinds)
-    && fitsRights (s .rights) (c .x)
-    && fitsRights (s .rights) (c .y)
-    && fitsRights (s .rights) (c .z)
+    && ltb (c .source) types
+    && ltb (c .destination) types
+    && ltb (c .kind) kinds
+    && fitsRights rights (c .x)
+    && fitsRights rights (c .y)
+    && fitsRights rights (c .z)
     && (isGrant c || eqb (c .destination) (c .source))
     && (not (isCreate c) || eqb (c .x) 0 && eqb (c .y) 0)
 
@@ -54,7 +57,7 @@ schemeIsValid s =
     && between 1 mostKinds (s .kinds)
     && between 1 mostRights (s .rights)
     && leb (length (s .commands)) mostCommands
-    && all (commandIsValid s) (s .commands)
+    && all (commandIsValid (s .types) (s .kinds) (s .rights)) (s .commands)
 
 unfoldable pub schemeNumber : Scheme → ℕ
 schemeNumber s =

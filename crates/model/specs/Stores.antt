@@ -9,7 +9,6 @@ use Rattle.model.specs.Words.{_when_else_, _then_, all, firstPlace, same
 use Rattle.model.specs.Sizes.{mostDesigns, designWords}
 use Rattle.model.specs.Rights.{fitsRights}
 use Rattle.model.specs.Codes.{spelled, codeNumber, codeWords, codeAt}
-use Rattle.model.specs.Schemes.{Scheme}
 
 pub record Design : Type 0 where
   pub kind : ℕ
@@ -47,15 +46,15 @@ isSound designs =
     && allDiffer (map (λ d. d .code) designs)
 
 -- 21, against this scheme and roster: "a bad kind, rights above the count, or rights in a cell past the roster"
-unfoldable pub fitsDesign : Scheme → ℕ → Design → Bool
-fitsDesign s people d =
-    ltb (d .kind) (s .kinds)
-    && all (fitsRights (s .rights)) (d .cells)
+unfoldable pub fitsDesign : ℕ → ℕ → ℕ → Design → Bool
+fitsDesign kinds rights people d =
+    ltb (d .kind) kinds
+    && all (fitsRights rights) (d .cells)
     && all (λ cell. eqb cell 0) (drop people (d .cells))
 
-unfoldable pub storeNumber : Scheme → ℕ → List Design → ℕ
-storeNumber s people designs =
-    21 when not (isSound designs && all (fitsDesign s people) designs) else
+unfoldable pub storeNumber : ℕ → ℕ → ℕ → List Design → ℕ
+storeNumber kinds rights people designs =
+    21 when not (isSound designs && all (fitsDesign kinds rights people) designs) else
     0
 
 -- the design that 36 words hold, and the 36 words of a design

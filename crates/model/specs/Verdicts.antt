@@ -32,11 +32,11 @@ pub record Start : Type 0 where
 abbrev pub startOfCreate : Command → Start
 startOfCreate c = record { kind = c .kind; row = rowOfCreate c; overlap = false }
 
-abbrev pub startOfDesign : Scheme → List Person → Design → Start
-startOfDesign s people d = record {
+abbrev pub startOfDesign : List Command → List Person → Design → Start
+startOfDesign commands people d = record {
   kind = d .kind;
   row = rowOfDesign people (d .cells);
-  overlap = overlaps s (d .kind) people (d .cells);
+  overlap = overlaps commands (d .kind) people (d .cells);
 }
 
 -- 15: "question out of range: type, right, budget, start not a create, table too short"
@@ -49,8 +49,8 @@ isInRange s q tableLength =
     && leb (rowWords * q .budget) tableLength
 
 -- the listing of a start, gone through for as many states as the budget has
-abbrev pub rowsFrom : Scheme → Start → ℕ → List Row
-rowsFrom s start budget = listing s (start .kind) (start .row) budget
+abbrev pub rowsFrom : List Command → Start → ℕ → List Row
+rowsFrom commands start budget = listing commands (start .kind) (start .row) budget
 
 -- "Fields not named above are 0."
 abbrev pub only : ℕ → Verdict
@@ -67,20 +67,20 @@ reported q rows =
     record { number = 0; states = length rows; held = 0; state = 0; command = 0 }
 
 -- 19: "a duplicate step (state and command: lowest state, then lowest command; states = whole count)"
-unfoldable pub duplicateFound : Scheme → ℕ → List Row → Verdict
-duplicateFound s kind rows =
-    let state = firstPlace (hasDuplicate s kind) rows in
-    record { number = 19; states = length rows; held = 0; state = state; command = firstDuplicate s kind (getD rows state []) }
+unfoldable pub duplicateFound : List Command → ℕ → List Row → Verdict
+duplicateFound commands kind rows =
+    let state = firstPlace (hasDuplicate commands kind) rows in
+    record { number = 19; states = length rows; held = 0; state = state; command = firstDuplicate commands kind (getD rows state []) }
 
 -- "A verdict: 15, 4, 12, 16, 17, 18, 19", from 16 on: the same for both starts
-unfoldable pub verdictFrom : Scheme → Start → Question → Verdict
-verdictFrom s start q =
+unfoldable pub verdictFrom : List Command → Start → Question → Verdict
+verdictFrom commands start q =
     let kind = start .kind in
-    let rows = rowsFrom s start (q .budget) in
-    record { number = 16; states = 0; held = 0; state = 0; command = firstNotNormal s kind } when ltb (firstNotNormal s kind) (length (s .commands)) else
+    let rows = rowsFrom commands start (q .budget) in
+    record { number = 16; states = 0; held = 0; state = 0; command = firstNotNormal commands kind } when ltb (firstNotNormal commands kind) (length commands) else
     only 17 when start .overlap else
     record { number = 18; states = q .budget; held = 0; state = 0; command = 0 } when ltb (q .budget) (length rows) else
-    duplicateFound s kind rows when any (hasDuplicate s kind) rows else
+    duplicateFound commands kind rows when any (hasDuplicate commands kind) rows else
     reported q rows
 
 -- "Every refusal leaves lent memory as found, save 18 and 19, which leave the listed rows."
@@ -88,9 +88,9 @@ unfoldable pub leavesRows : ℕ → Bool
 leavesRows number = eqb number 0 || eqb number 18 || eqb number 19
 
 -- "Afterwards the table holds the listed rows and is otherwise unchanged."
-unfoldable pub tableAfter : Scheme → Start → Question → List ℕ → List ℕ
-tableAfter s start q table =
-    writtenOver (joined (take (q .budget) (rowsFrom s start (q .budget)))) table when leavesRows (verdictFrom s start q .number) else
+unfoldable pub tableAfter : List Command → Start → Question → List ℕ → List ℕ
+tableAfter commands start q table =
+    writtenOver (joined (take (q .budget) (rowsFrom commands start (q .budget)))) table when leavesRows (verdictFrom commands start q .number) else
     table
 
 -- before 16, from a create: 15

@@ -1,0 +1,361 @@
+-- Laws of the words on lists, by induction on the list: what a test over a list says at an index and over a seam, where the first element that passes
+-- stands, lists cut into groups and joined again, and lent memory that is written from its beginning. Assumes nothing.
+use Prim.Native.Nat.{ℕ, zero, suc, _+_, _-_, _*_, _≤_, _<_}
+use mathlib.Core.Path.{_≡_, refl, sym, ap, ap₂, _∙_}
+use mathlib.Core.Bool.{Bool, true, false, _&&_, _||_, not, and-assoc, or-assoc, and-true, and-false, or-false}
+use mathlib.Core.List.{List, [], _∷_, _++_, map, append-assoc, append-nil}
+use mathlib.Core.Logic.{⊎-elim, _↔_}
+use native.Mathlib.Omega.{arith, by-contra}
+use native.Mathlib.Nat.{suc-add, zero-mul, suc-mul, add-comm, le-antisymm, zero-add, add-zero, add-suc, add-assoc, add-sub-of-le}
+use borrow.Author.Tests.{eqb-true, eq-eqb, lt-ltb}
+use lib.Dec.{eqb, ltb, leb·suc-suc}
+use lib.ListN.{length, getD, take, drop, set, length-append, length-drop, take-append-drop, List·getD-append}
+use lib.Seq.{take-suc, drop-cons, take-add, drop-drop, take-at, drop-at, take-append-seam, drop-append-seam, getD-take, getD-drop, set-append-seam, append-snoc, map-set-same, take-all, take-append-add, drop-append-add, paste}
+use Rattle.model.specs.Words.{_when_else_, all, any, those, firstPlace, joined, groups, writtenOver, numbersFrom, same, allDiffer}
+use Rattle.laws.proofs.Tests.{by-test, never-both, not-passed, same-test, and-iff, or-true, left-or, right-or, passed}
+
+-- ---- a test of every element, and of some
+
+module _ {A : Type 0} (test : A → Bool) where
+  pub all-at : (xs : List A) (d : A) → all test xs ≡ true → (i : ℕ) → i < length xs → test (getD xs i d) ≡ true
+  all-at [] d h i l = absurd (omega arith)
+  all-at (x ∷ xs) d h zero l = and-iff (test x) (all test xs) .0 h .0
+  all-at (x ∷ xs) d h (suc i) l = all-at xs d (and-iff (test x) (all test xs) .0 h .1) i (omega arith)
+
+  pub at-all : (xs : List A) (d : A) → ((i : ℕ) → i < length xs → test (getD xs i d) ≡ true) → all test xs ≡ true
+  at-all [] d h = refl
+  at-all (x ∷ xs) d h = and-iff (test x) (all test xs) .1 (h 0 (omega arith), at-all xs d (λ i l. h (suc i) (omega arith)))
+
+  pub any-at : (xs : List A) (d : A) → any test xs ≡ true → (i : ℕ) × (i < length xs) × (test (getD xs i d) ≡ true)
+  any-at [] d h = absurd (never-both h refl)
+  any-at (x ∷ xs) d h =
+      ⊎-elim (λ here. (0, omega arith, here))
+      (λ later. let (i, l, p) = any-at xs d later in (suc i, omega arith, p))
+      (or-true (test x) (any test xs) h)
+
+  pub at-any : (xs : List A) (d : A) (i : ℕ) → i < length xs → test (getD xs i d) ≡ true → any test xs ≡ true
+  at-any [] d i l h = absurd (omega arith)
+  at-any (x ∷ xs) d zero l h = left-or (any test xs) h
+  at-any (x ∷ xs) d (suc i) l h = right-or (test x) (at-any xs d i (omega arith) h)
+
+  pub none-at : (xs : List A) (d : A) → any test xs ≡ false → (i : ℕ) → i < length xs → test (getD xs i d) ≡ false
+  none-at xs d h i l = not-passed (test (getD xs i d)) (λ p. never-both (at-any xs d i l p) h)
+
+  pub at-none : (xs : List A) (d : A) → ((i : ℕ) → i < length xs → test (getD xs i d) ≡ false) → any test xs ≡ false
+  at-none xs d h = not-passed (any test xs) (λ p. let (i, l, q) = any-at xs d p in never-both q (h i l))
+
+  pub all-append : (xs ys : List A) → all test (xs ++ ys) ≡ (all test xs && all test ys)
+  all-append [] ys = refl
+  all-append (x ∷ xs) ys = ap (λ (b : Bool). test x && b) (all-append xs ys) ∙ sym (and-assoc (test x) (all test xs) (all test ys))
+
+  pub any-append : (xs ys : List A) → any test (xs ++ ys) ≡ (any test xs || any test ys)
+  any-append [] ys = refl
+  any-append (x ∷ xs) ys = ap (λ (b : Bool). test x || b) (any-append xs ys) ∙ sym (or-assoc (test x) (any test xs) (any test ys))
+
+  pub all-snoc : (xs : List A) (x : A) → all test (xs ++ x ∷ []) ≡ (all test xs && test x)
+  all-snoc xs x = all-append xs (x ∷ []) ∙ ap (λ (b : Bool). all test xs && b) (and-true (test x))
+
+  pub any-snoc : (xs : List A) (x : A) → any test (xs ++ x ∷ []) ≡ (any test xs || test x)
+  any-snoc xs x = any-append xs (x ∷ []) ∙ ap (λ (b : Bool). any test xs || b) (or-false (test x))
+
+  pub all-cut : (n : ℕ) (xs : List A) → all test xs ≡ (all test (take n xs) && all test (drop n xs))
+  all-cut n xs = ap (all test) (sym (take-append-drop n xs)) ∙ all-append (take n xs) (drop n xs)
+
+  pub any-cut : (n : ℕ) (xs : List A) → any test xs ≡ (any test (take n xs) || any test (drop n xs))
+  any-cut n xs = ap (any test) (sym (take-append-drop n xs)) ∙ any-append (take n xs) (drop n xs)
+
+  -- one more element, as a loop that goes up asks
+  pub all-take-suc : (xs : List A) (i : ℕ) (d : A) → i < length xs → all test (take (suc i) xs) ≡ (all test (take i xs) && test (getD xs i d))
+  all-take-suc xs i d l = ap (all test) (take-suc xs i d l) ∙ all-snoc (take i xs) (getD xs i d)
+
+  pub any-take-suc : (xs : List A) (i : ℕ) (d : A) → i < length xs → any test (take (suc i) xs) ≡ (any test (take i xs) || test (getD xs i d))
+  any-take-suc xs i d l = ap (any test) (take-suc xs i d l) ∙ any-snoc (take i xs) (getD xs i d)
+
+  pub all-set : (xs : List A) (i : ℕ) (y : A) → all test xs ≡ true → test y ≡ true → all test (set xs i y) ≡ true
+  all-set [] i y h p = refl
+  all-set (x ∷ xs) zero y h p = and-iff (test y) (all test xs) .1 (p, and-iff (test x) (all test xs) .0 h .1)
+  all-set (x ∷ xs) (suc i) y h p =
+      let (q, r) = and-iff (test x) (all test xs) .0 h in
+      and-iff (test x) (all test (set xs i y)) .1 (q, all-set xs i y r p)
+
+  pub all-drop : (xs : List A) (i : ℕ) (d : A) → i < length xs → all test (drop i xs) ≡ (test (getD xs i d) && all test (drop (suc i) xs))
+  all-drop xs i d l = ap (all test) (drop-cons xs i d l)
+
+  pub any-drop : (xs : List A) (i : ℕ) (d : A) → i < length xs → any test (drop i xs) ≡ (test (getD xs i d) || any test (drop (suc i) xs))
+  any-drop xs i d l = ap (any test) (drop-cons xs i d l)
+
+-- inside a list it doesn't matter what stands past the end
+pub map-at : {A B : Type 0} (f : A → B) (xs : List A) (d : A) (e : B) (i : ℕ) → i < length xs → getD (map f xs) i e ≡ f (getD xs i d)
+map-at f [] d e i l = absurd (omega arith)
+map-at f (x ∷ xs) d e zero l = refl
+map-at f (x ∷ xs) d e (suc i) l = map-at f xs d e i (omega arith)
+
+module _ {A B : Type 0} (f : A → B) (test : B → Bool) where
+  pub all-map : (xs : List A) → all test (map f xs) ≡ all (λ x. test (f x)) xs
+  all-map [] = refl
+  all-map (x ∷ xs) = ap (λ (b : Bool). test (f x) && b) (all-map xs)
+
+  pub any-map : (xs : List A) → any test (map f xs) ≡ any (λ x. test (f x)) xs
+  any-map [] = refl
+  any-map (x ∷ xs) = ap (λ (b : Bool). test (f x) || b) (any-map xs)
+
+-- ---- the elements that pass, and the place of the first
+
+module _ {A : Type 0} (test : A → Bool) where
+  pub those-append : (xs ys : List A) → those test (xs ++ ys) ≡ those test xs ++ those test ys
+  those-append [] ys = refl
+  those-append (x ∷ xs) ys =
+      by-test (test x)
+      (λ p. rw p (ap (λ (r : List A). x ∷ r) (those-append xs ys)))
+      (λ q. rw q (those-append xs ys))
+
+  pub those-take-suc : (xs : List A) (i : ℕ) (d : A) → i < length xs
+      → those test (take (suc i) xs) ≡ those test (take i xs) ++ those test (getD xs i d ∷ [])
+  those-take-suc xs i d l = ap (those test) (take-suc xs i d l) ∙ those-append (take i xs) (getD xs i d ∷ [])
+
+  pub those-length : (xs : List A) → length (those test xs) ≤ length xs
+  those-length [] = omega arith
+  those-length (x ∷ xs) =
+      by-test (test x) (λ p. rw p (omega (arith, those-length xs))) (λ q. rw q (omega (arith, those-length xs)))
+
+  pub those-all : (xs : List A) → all test (those test xs) ≡ true
+  those-all [] = refl
+  those-all (x ∷ xs) =
+      by-test (test x)
+      (λ p. rw p (and-iff (test x) (all test (those test xs)) .1 (p, those-all xs)))
+      (λ q. rw q (those-all xs))
+
+  pub first-le : (xs : List A) → firstPlace test xs ≤ length xs
+  first-le [] = omega arith
+  first-le (x ∷ xs) = by-test (test x) (λ p. rw p (omega arith)) (λ q. rw q (omega (arith, first-le xs)))
+
+  pub at-first : (xs : List A) (d : A) → firstPlace test xs < length xs → test (getD xs (firstPlace test xs) d) ≡ true
+  at-first [] d = λ l. absurd (omega arith)
+  at-first (x ∷ xs) d = by-test (test x) (λ p. rw p (λ l. p)) (λ q. rw q (λ l. at-first xs d (omega arith)))
+
+  pub before-first : (xs : List A) (d : A) (i : ℕ) → i < firstPlace test xs → test (getD xs i d) ≡ false
+  before-first [] d i = λ l. absurd (omega arith)
+  before-first (x ∷ xs) d zero = by-test (test x) (λ p. rw p (λ l. absurd (omega arith))) (λ q l. q)
+  before-first (x ∷ xs) d (suc i) =
+      by-test (test x) (λ p. rw p (λ l. absurd (omega arith))) (λ q. rw q (λ l. before-first xs d i (omega arith)))
+
+  -- a place with none before it that passes, at which one passes or the list ends, is the first
+  pub is-first : (xs : List A) (d : A) (i : ℕ) → i ≤ length xs → ((j : ℕ) → j < i → test (getD xs j d) ≡ false)
+      → (i < length xs → test (getD xs i d) ≡ true) → firstPlace test xs ≡ i
+  is-first [] d i l before at = omega arith
+  is-first (x ∷ xs) d zero l before at = rw (at (omega arith)) refl
+  is-first (x ∷ xs) d (suc i) l before at =
+      rw (before 0 (omega arith)) (ap suc (is-first xs d i (omega arith) (λ j h. before (suc j) (omega arith)) (λ h. at (omega arith))))
+
+  pub first-any : (xs : List A) → ltb (firstPlace test xs) (length xs) ≡ any test xs
+  first-any [] = refl
+  first-any (x ∷ xs) =
+      by-test (test x)
+      (λ p. rw p (lt-ltb 0 (suc (length xs)) (omega arith)))
+      (λ q. rw q (leb·suc-suc (suc (firstPlace test xs)) (length xs) ∙ first-any xs))
+
+  pub first-append-some : (xs ys : List A) → any test xs ≡ true → firstPlace test (xs ++ ys) ≡ firstPlace test xs
+  first-append-some [] ys = λ h. absurd (never-both h refl)
+  first-append-some (x ∷ xs) ys = by-test (test x) (λ p. rw p (λ h. refl)) (λ q. rw q (λ h. ap suc (first-append-some xs ys h)))
+
+  pub first-append-none : (xs ys : List A) → any test xs ≡ false → firstPlace test (xs ++ ys) ≡ length xs + firstPlace test ys
+  first-append-none [] ys = λ h. omega arith
+  first-append-none (x ∷ xs) ys =
+      by-test (test x) (λ p. rw p (λ h. absurd (never-both refl h))) (λ q. rw q (λ h. omega (arith, first-append-none xs ys h)))
+
+module _ {A B : Type 0} (f : A → B) (test : B → Bool) where
+  pub first-map : (xs : List A) → firstPlace test (map f xs) ≡ firstPlace (λ x. test (f x)) xs
+  first-map [] = refl
+  first-map (x ∷ xs) = ap (λ (n : ℕ). 0 when test (f x) else suc n) (first-map xs)
+
+-- an element anew of which the test says the same leaves the place of the first
+pub first-set : {A : Type 0} (test : A → Bool) (xs : List A) (i : ℕ) (y d : A) → test y ≡ test (getD xs i d)
+    → firstPlace test (set xs i y) ≡ firstPlace test xs
+first-set test xs i y d e =
+    sym (first-map test (λ b. b) (set xs i y)) ∙ ap (firstPlace (λ b. b)) (map-set-same test xs i y d e) ∙ first-map test (λ b. b) xs
+
+-- ---- lists of numbers that are the same, and that differ
+
+pub same-iff : (xs ys : List ℕ) → (same xs ys ≡ true) ↔ (xs ≡ ys)
+same-iff [] [] = (λ h. refl, λ e. refl)
+same-iff [] (y ∷ ys) = (λ h. absurd (never-both h refl), λ e. absurd (omega (arith, ap length e)))
+same-iff (x ∷ xs) [] = (λ h. absurd (never-both h refl), λ e. absurd (omega (arith, ap length e)))
+same-iff (x ∷ xs) (y ∷ ys) = (
+  λ h. let (p, q) = and-iff (eqb x y) (same xs ys) .0 h in ap₂ (λ (a : ℕ) (r : List ℕ). a ∷ r) (eqb-true x y p) (same-iff xs ys .0 q),
+  λ e. and-iff (eqb x y) (same xs ys) .1 (eq-eqb x y (cc), same-iff xs ys .1 (cc)),
+)
+
+pub same-refl : (xs : List ℕ) → same xs xs ≡ true
+same-refl xs = same-iff xs xs .1 refl
+
+pub same-iff-false : (xs ys : List ℕ) → (same xs ys ≡ false) ↔ (xs ≡ ys → ⊥)
+same-iff-false xs ys = (λ h e. never-both (same-iff xs ys .1 e) h, λ h. not-passed (same xs ys) (λ p. h (same-iff xs ys .0 p)))
+
+pub same-sym : (xs ys : List ℕ) → same xs ys ≡ same ys xs
+same-sym xs ys =
+    same-test (same xs ys) (same ys xs)
+    (λ p. same-iff ys xs .1 (sym (same-iff xs ys .0 p)))
+    (λ p. same-iff xs ys .1 (sym (same-iff ys xs .0 p)))
+
+pub differ-before : (xs : List (List ℕ)) (d : List ℕ) → allDiffer xs ≡ true → (i j : ℕ) → i < j → j < length xs → getD xs i d ≡ getD xs j d → ⊥
+differ-before [] d h i j l m e = omega arith
+differ-before (x ∷ xs) d h i zero l m e = omega arith
+differ-before (x ∷ xs) d h zero (suc j) l m e =
+    let p : any (same x) xs ≡ false = (simp passed at h) .0 in
+    same-iff-false x (getD xs j d) .0 (none-at (same x) xs d p j (omega arith)) e
+differ-before (x ∷ xs) d h (suc i) (suc j) l m e = differ-before xs d ((simp passed at h) .1) i j (omega arith) (omega arith) e
+
+-- lists that all differ are the same at one place only
+pub differ-at : (xs : List (List ℕ)) (d : List ℕ) → allDiffer xs ≡ true → (i j : ℕ) → i < length xs → j < length xs
+    → getD xs i d ≡ getD xs j d → i ≡ j
+differ-at xs d h i j li lj e =
+    le-antisymm (by-contra i j (λ l. differ-before xs d h j i l li (sym e))) (by-contra j i (λ l. differ-before xs d h i j l lj e))
+
+pub at-differ : (xs : List (List ℕ)) (d : List ℕ) → ((i j : ℕ) → i < j → j < length xs → getD xs i d ≡ getD xs j d → ⊥) → allDiffer xs ≡ true
+at-differ [] d h = refl
+at-differ (x ∷ xs) d h =
+    simp passed (
+      at-none (same x) xs d (λ j l. same-iff-false x (getD xs j d) .1 (h 0 (suc j) (omega arith) (omega arith))),
+      at-differ xs d (λ i j l m. h (suc i) (suc j) (omega arith) (omega arith)),
+    )
+
+pub spread : (a b c d : Bool) → (not (a || b) && (c && not d)) ≡ (not a && c && not (b || d))
+spread true b c d = refl
+spread false true c d = sym (and-false c)
+spread false false c d = refl
+
+pub differ-snoc : (xs : List (List ℕ)) (x : List ℕ) → allDiffer (xs ++ x ∷ []) ≡ (allDiffer xs && not (any (same x) xs))
+differ-snoc [] x = refl
+differ-snoc (y ∷ ys) x = rw (any-snoc (same y) ys x, differ-snoc ys x, same-sym y x) (spread (any (same y) ys) (same x y) (allDiffer ys) (any (same x) ys))
+
+pub differ-take-suc : (xs : List (List ℕ)) (i : ℕ) (d : List ℕ) → i < length xs
+    → allDiffer (take (suc i) xs) ≡ (allDiffer (take i xs) && not (any (same (getD xs i d)) (take i xs)))
+differ-take-suc xs i d l = ap allDiffer (take-suc xs i d l) ∙ differ-snoc (take i xs) (getD xs i d)
+
+-- ---- lists cut into groups of one size, and joined again
+
+pub one-more : (n size : ℕ) → suc n * size ≡ size + n * size
+one-more n size = suc-mul n size ∙ add-comm (n * size) size
+
+module _ {A : Type 0} where
+  pub length-groups : (size n : ℕ) (xs : List A) → length (groups size n xs) ≡ n
+  length-groups size zero xs = refl
+  length-groups size (suc n) xs = ap suc (length-groups size n (drop size xs))
+
+  pub groups-at : (size n : ℕ) (xs d : List A) (i : ℕ) → i < n → getD (groups size n xs) i d ≡ take size (drop (i * size) xs)
+  groups-at size zero xs d i l = absurd (omega arith)
+  groups-at size (suc n) xs d zero l = rw zero-mul refl
+  groups-at size (suc n) xs d (suc i) l =
+      rw (one-more i size, ← drop-drop (i * size) size xs) (groups-at size n (drop size xs) d i (omega arith))
+
+  pub groups-last : (size n : ℕ) (xs : List A) → groups size (suc n) xs ≡ groups size n xs ++ (take size (drop (n * size) xs) ∷ [])
+  groups-last size zero xs = rw zero-mul refl
+  groups-last size (suc n) xs =
+      rw (one-more n size, ← drop-drop (n * size) size xs) (ap (λ (r : List (List A)). take size xs ∷ r) (groups-last size n (drop size xs)))
+
+  pub groups-take : (size k n : ℕ) (xs : List A) → k ≤ n → take k (groups size n xs) ≡ groups size k xs
+  groups-take size zero n xs l = refl
+  groups-take size (suc k) zero xs l = absurd (omega arith)
+  groups-take size (suc k) (suc n) xs l = ap (λ (r : List (List A)). take size xs ∷ r) (groups-take size k n (drop size xs) (omega arith))
+
+  pub joined-groups : (size n : ℕ) (xs : List A) → joined (groups size n xs) ≡ take (n * size) xs
+  joined-groups size zero xs = rw zero-mul refl
+  joined-groups size (suc n) xs = rw (one-more n size, take-add size (n * size) xs, joined-groups size n (drop size xs))
+
+  pub joined-append : (xss yss : List (List A)) → joined (xss ++ yss) ≡ joined xss ++ joined yss
+  joined-append [] yss = refl
+  joined-append (xs ∷ xss) yss = ap (λ (r : List A). xs ++ r) (joined-append xss yss) ∙ sym (append-assoc xs (joined xss) (joined yss))
+
+-- lists that are all of one length
+module _ {A : Type 0} (size : ℕ) where
+  abbrev pub Sized : List (List A) → List A → Type 0
+  Sized xss d = (i : ℕ) → i < length xss → length (getD xss i d) ≡ size
+
+  pub length-joined : (xss : List (List A)) (d : List A) → Sized xss d → length (joined xss) ≡ length xss * size
+  length-joined [] d h = sym (zero-mul size)
+  length-joined (xs ∷ xss) d h =
+      length-append xs (joined xss) ∙ ap₂ _+_ (h 0 (omega arith)) (length-joined xss d (λ i l. h (suc i) (omega arith)))
+      ∙ sym (one-more (length xss) size)
+
+  pub groups-joined : (xss : List (List A)) (d rest : List A) → Sized xss d → groups size (length xss) (joined xss ++ rest) ≡ xss
+  groups-joined [] d rest h = refl
+  groups-joined (xs ∷ xss) d rest h =
+      let e : length xs ≡ size = h 0 (omega arith) in
+      rw (append-assoc xs (joined xss) rest, take-at xs (joined xss ++ rest) size e, drop-at xs (joined xss ++ rest) size e)
+      (ap (λ (r : List (List A)). xs ∷ r) (groups-joined xss d rest (λ i l. h (suc i) (omega arith))))
+
+  pub joined-part : (xss : List (List A)) (d : List A) → Sized xss d → (i : ℕ) → i < length xss
+      → getD xss i d ≡ take size (drop (i * size) (joined xss))
+  joined-part xss d h i l =
+      let e : groups size (length xss) (joined xss) ≡ xss = rw append-nil at (groups-joined xss d [] h) in
+      ap (λ (r : List (List A)). getD r i d) (sym e) ∙ groups-at size (length xss) (joined xss) d i l
+
+  pub joined-at : (xss : List (List A)) (d : List A) → Sized xss d → (i j : ℕ) (z : A) → i < length xss → j < size
+      → getD (joined xss) (i * size + j) z ≡ getD (getD xss i d) j z
+  joined-at xss d h i j z l m =
+      rw (joined-part xss d h i l, getD-take size (drop (i * size) (joined xss)) j z m, getD-drop (i * size) (joined xss) j z) refl
+
+  -- one of the lists anew is written over the part where it stood
+  pub joined-set : (xss : List (List A)) (d : List A) → Sized xss d → (i : ℕ) (xs : List A) → i < length xss → length xs ≡ size
+      → joined (set xss i xs) ≡ paste (joined xss) (i * size) xs size
+  joined-set [] d h i xs l m = absurd (omega arith)
+  joined-set (ys ∷ yss) d h zero xs l m =
+      let e : length ys ≡ size = h 0 (omega arith) in
+      rw (zero-mul, zero-add, drop-at ys (joined yss) size e, take-all size xs (omega arith)) refl
+  joined-set (ys ∷ yss) d h (suc i) xs l m =
+      let e : length ys ≡ size = h 0 (omega arith) in
+      let js = joined yss in
+      let before : take (size + i * size) (ys ++ js) ≡ ys ++ take (i * size) js = rw e at (take-append-add ys js (i * size)) in
+      let after : drop (size + i * size + size) (ys ++ js) ≡ drop (i * size + size) js =
+      rw (e, ← add-assoc size (i * size) size) at (drop-append-add ys js (i * size + size)) in
+      rw (one-more i size, before, after, append-assoc ys (take (i * size) js) (take size xs), append-assoc ys (take (i * size) js ++ take size xs) (drop (i * size + size) js))
+      (ap (λ (r : List A). ys ++ r) (joined-set yss d (λ j k. h (suc j) (omega arith)) i xs (omega arith) m))
+
+-- ---- lent memory that is written from its beginning
+
+module _ {A : Type 0} where
+  pub length-written : (new old : List A) → length new ≤ length old → length (writtenOver new old) ≡ length old
+  unfolding writtenOver
+  length-written new old l = omega (arith, length-append new (drop (length new) old), length-drop (length new) old)
+
+  pub written-inside : (new old : List A) (d : A) (i : ℕ) → i < length new → getD (writtenOver new old) i d ≡ getD new i d
+  unfolding writtenOver
+  written-inside new old d i l = List·getD-append new (drop (length new) old) d i l
+
+  pub take-written : (new old : List A) → take (length new) (writtenOver new old) ≡ new
+  unfolding writtenOver
+  take-written new old = take-append-seam new (drop (length new) old)
+
+  pub drop-written : (new old : List A) → drop (length new) (writtenOver new old) ≡ drop (length new) old
+  unfolding writtenOver
+  drop-written new old = drop-append-seam new (drop (length new) old)
+
+  pub written-past : (new old : List A) (d : A) (i : ℕ) → length new ≤ i → getD (writtenOver new old) i d ≡ getD old i d
+  written-past new old d i l =
+      let at : (xs : List A) → getD xs i d ≡ getD (drop (length new) xs) (i - length new) d =
+      λ xs. sym (getD-drop (length new) xs (i - length new) d ∙ ap (λ (k : ℕ). getD xs k d) (add-sub-of-le l)) in
+      at (writtenOver new old) ∙ ap (λ (r : List A). getD r (i - length new) d) (drop-written new old) ∙ sym (at old)
+
+  -- one more word
+  pub written-snoc : (new old : List A) (a : A) → length new < length old
+      → writtenOver (new ++ a ∷ []) old ≡ set (writtenOver new old) (length new) a
+  unfolding writtenOver
+  written-snoc new old a l =
+      let e : length (new ++ a ∷ []) ≡ suc (length new) = length-append new (a ∷ []) ∙ omega arith in
+      let rest = drop (suc (length new)) old in
+      rw (e, drop-cons old (length new) a l, set-append-seam new (getD old (length new) a) rest a) (append-snoc new a rest)
+
+-- ---- numbers in a row
+
+pub length-numbers : (first n : ℕ) → length (numbersFrom first n) ≡ n
+length-numbers first zero = refl
+length-numbers first (suc n) = ap suc (length-numbers (suc first) n)
+
+pub numbers-at : (first n d i : ℕ) → i < n → getD (numbersFrom first n) i d ≡ first + i
+numbers-at first zero d i l = absurd (omega arith)
+numbers-at first (suc n) d zero l = omega arith
+numbers-at first (suc n) d (suc i) l = numbers-at (suc first) n d i (omega arith) ∙ omega arith
+
+pub numbers-last : (first n : ℕ) → numbersFrom first (suc n) ≡ numbersFrom first n ++ ((first + n) ∷ [])
+numbers-last first zero = rw add-zero refl
+numbers-last first (suc n) = rw (add-suc first n, ← suc-add first n) (ap (λ (r : List ℕ). first ∷ r) (numbers-last (suc first) n))
