@@ -1,0 +1,6 @@
+-- The laws behind the proofs of this crate.
+pub mod Table
+pub mod Lists
+pub mod Spelling
+pub mod Padding
+pub mod Unpadding
