@@ -1,10 +1,9 @@
 -- The listing of stand-in states, in document 01's words; the small step that a search moves on by; and what is reachable at all.
 -- "A *stand-in state* has one cell per type. Commands act on it as above, each type being one person": a row of eight cells.
 -- Assumes nothing.
-use Prim.Native.Nat.{ℕ, zero, suc}
+use Prim.Native.Nat.{ℕ, zero, suc, _<_}
 use mathlib.Core.Bool.{Bool, true, _&&_}
 use mathlib.Core.List.{List, [], _∷_, _++_}
-use mathlib.Core.List.{List·Memᴰ}
 use mathlib.Core.Path.{_≡_}
 use lib.Dec.{leb, ltb}
 use lib.ListN.{length, getD}
@@ -76,10 +75,11 @@ unfoldable pub smallSteps : List Command → ℕ → ℕ → Search → Search
 smallSteps commands kind zero p = p
 smallSteps commands kind (suc n) p = smallSteps commands kind n (smallStep commands kind p)
 
--- the states that some run of steps reaches from the start
+-- the states that some run of steps, given by their command numbers, reaches from the start
 pub data Reach (commands : List Command) (kind : ℕ) (start : Row) : Row → Type 0 where
   here : Reach commands kind start start
-  next : {row : Row} (c : Command) → Reach commands kind start row → List·Memᴰ c commands → fires kind c row ≡ true → Reach commands kind start (moved c row)
+  next : {row : Row} (k : ℕ) → Reach commands kind start row → k < length commands → fires kind (commandIn commands k) row ≡ true
+      → Reach commands kind start (moved (commandIn commands k) row)
 
 -- "A step is *duplicate* if, after the loss, the destination type still holds a right of Z that is both propagation and deletable."
 unfoldable pub isDuplicate : List Command → ℕ → Command → Row → Bool
