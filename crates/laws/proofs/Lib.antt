@@ -5,3 +5,5 @@ pub mod Digits
 pub mod Codes
 pub mod Listing
 pub mod Reach
+pub mod Acts
+pub mod KindSets

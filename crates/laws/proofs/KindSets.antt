@@ -1,0 +1,94 @@
+-- What the sets of a kind hold, a bit at a time: a right stands in them exactly if one of the commands, or one of the people, has it.
+-- Assumes nothing.
+use Prim.Native.Nat.{ℕ, zero, suc, _+_, _≤_, _<_, min, max}
+use mathlib.Core.Bool.{Bool, true, false, _&&_, not}
+use mathlib.Core.List.{List, [], _∷_, map}
+use mathlib.Core.Logic.{⊎-elim, _⊎_, inl, inr}
+use mathlib.Core.Path.{_≡_, refl, sym, ap, subst, _∙_}
+use native.Mathlib.Nat.{zero-add}
+use native.Mathlib.Omega.{arith}
+use lib.Dec.{eqb}
+use lib.ListN.{length, getD}
+use borrow.Author.Tests.{eqb-true, eq-eqb}
+use Rattle.model.specs.declared.Command.{Command}
+use Rattle.model.specs.Words.{_when_else_, those, numbersFrom}
+use Rattle.model.specs.Sizes.{rowWords}
+use Rattle.model.specs.Rights.{bit, common, together}
+use Rattle.model.specs.Schemes.{commandIn, noCommand}
+use Rattle.model.specs.Rosters.{Person, typeAt}
+use Rattle.model.specs.Forms.{cellAt}
+use Rattle.model.specs.Kinds.{isStep, stepsOf, propagation, deletable, both, ofType, rowOfDesign}
+use Rattle.laws.proofs.Tests.{by-test, never-both}
+use Rattle.laws.proofs.Bits.{bit-below-two, bit-of-zero, bit-together, bit-common}
+use Rattle.laws.proofs.Lists.{map-at, length-numbers, numbers-at}
+
+-- of two bits of which the larger is 1, one is 1
+pub max-one : (a b : ℕ) → b < 2 → max a b ≡ 1 → (a ≡ 1) ⊎ (b ≡ 1)
+max-one a zero l h = inl (omega arith)
+max-one a (suc b) l h = inr (omega arith)
+
+-- ---- all rights of those elements that pass a test, put together
+
+module _ {A : Type 0} (f : A → ℕ) (test : A → Bool) (k : ℕ) where
+  pub those-have : (xs : List A) (d : A) (i : ℕ) → i < length xs → test (getD xs i d) ≡ true → bit (f (getD xs i d)) k ≤ bit (together (map f (those test xs))) k
+  those-have [] d i l t = absurd (omega arith)
+  those-have (x ∷ xs) d zero l t = rw (t, bit-together (f x) (map f (those test xs)) k) (omega arith)
+  those-have (x ∷ xs) d (suc i) l t =
+      let later : bit (f (getD xs i d)) k ≤ bit (together (map f (those test xs))) k = those-have xs d i (omega arith) t in
+      by-test (test x) (λ e. rw (e, bit-together (f x) (map f (those test xs)) k) (omega arith)) (λ e. rw e later)
+
+  pub one-of-those : (xs : List A) (d : A) → bit (together (map f (those test xs))) k ≡ 1
+      → (i : ℕ) × (i < length xs) × (test (getD xs i d) ≡ true) × (bit (f (getD xs i d)) k ≡ 1)
+  unfolding together
+  one-of-those [] d h = absurd (omega (arith, bit-of-zero k))
+  one-of-those (x ∷ xs) d h =
+      by-test (test x)
+      (λ e.
+      let both-parts : max (bit (f x) k) (bit (together (map f (those test xs))) k) ≡ 1 = sym (bit-together (f x) (map f (those test xs)) k) ∙ rw e at h in
+      ⊎-elim (λ first. (0, omega arith, e, first)) (λ rest. later (one-of-those xs d rest))
+      (max-one (bit (f x) k) (bit (together (map f (those test xs))) k) (bit-below-two (together (map f (those test xs))) k) both-parts))
+      (λ e. later (one-of-those xs d (rw e at h)))
+    where
+      later : (i : ℕ) × (i < length xs) × (test (getD xs i d) ≡ true) × (bit (f (getD xs i d)) k ≡ 1)
+          → (i : ℕ) × (i < suc (length xs)) × (test (getD (x ∷ xs) i d) ≡ true) × (bit (f (getD (x ∷ xs) i d)) k ≡ 1)
+      later found = (suc (found .0), omega arith, found .2, found .3)
+
+-- ---- the commands of a kind
+
+module _ (commands : List Command) (kind k j : ℕ) (l : j < length commands) (step : isStep kind (commandIn commands j) ≡ true) where
+  pub x-propagates : bit (commandIn commands j .x) k ≤ bit (propagation commands kind) k
+  unfolding propagation stepsOf
+  x-propagates = those-have (λ c. c .x) (isStep kind) k commands noCommand j l step
+
+  pub y-deletes : bit (commandIn commands j .y) k ≤ bit (deletable commands kind) k
+  unfolding deletable stepsOf
+  y-deletes = those-have (λ c. c .y) (isStep kind) k commands noCommand j l step
+
+pub bit-both : (commands : List Command) (kind k : ℕ) → bit (both commands kind) k ≡ min (bit (propagation commands kind) k) (bit (deletable commands kind) k)
+unfolding both
+bit-both commands kind k = bit-common (propagation commands kind) (deletable commands kind) k
+
+-- ---- the people of a type
+
+module _ (people : List Person) (cells : List ℕ) (t k : ℕ) where
+  pub type-has : (p : ℕ) → p < length people → typeAt people p ≡ t → bit (cellAt cells p) k ≤ bit (ofType people cells t) k
+  unfolding ofType
+  type-has p l e =
+      let place : getD (numbersFrom 0 (length people)) p 0 ≡ p = numbers-at 0 (length people) 0 p l ∙ zero-add p in
+      subst (λ (i : ℕ). bit (cellAt cells i) k ≤ bit (ofType people cells t) k) place
+      (those-have (cellAt cells) (λ i. eqb (typeAt people i) t) k (numbersFrom 0 (length people)) 0 p (omega (arith, length-numbers 0 (length people)))
+      (rw place (eq-eqb (typeAt people p) t e)))
+
+  pub one-of-type : bit (ofType people cells t) k ≡ 1 → (p : ℕ) × (p < length people) × (typeAt people p ≡ t) × (bit (cellAt cells p) k ≡ 1)
+  unfolding ofType
+  one-of-type h =
+      let (i, l, e, b) = one-of-those (cellAt cells) (λ p. eqb (typeAt people p) t) k (numbersFrom 0 (length people)) 0 h in
+      let j : i < length people = omega (arith, length-numbers 0 (length people)) in
+      let place : getD (numbersFrom 0 (length people)) i 0 ≡ i = numbers-at 0 (length people) 0 i j ∙ zero-add i in
+      (i, j, eqb-true (typeAt people i) t (rw place at e), rw place at b)
+
+-- the row of a design holds at each type what its people hold together
+pub row-at : (people : List Person) (cells : List ℕ) (t : ℕ) → t < rowWords → cellAt (rowOfDesign people cells) t ≡ ofType people cells t
+unfolding rowOfDesign
+row-at people cells t l =
+    map-at (ofType people cells) (numbersFrom 0 rowWords) 0 0 t l ∙ ap (ofType people cells) (numbers-at 0 rowWords 0 t l ∙ zero-add t)
