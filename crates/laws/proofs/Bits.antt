@@ -3,7 +3,7 @@
 use Prim.Native.Nat.{ℕ, zero, suc, _+_, _-_, _*_, _/_, _%_, _^_, _≤_, _<_, min, max}
 use mathlib.Core.Path.{_≡_, sym, ap, ap₂, _∙_}
 use mathlib.Core.Bool.{true, false, not}
-use mathlib.Core.Logic.{by-cases}
+use mathlib.Core.Logic.{_⊎_, by-cases, inl, inr}
 use mathlib.Core.List.{List, [], _∷_}
 use native.Mathlib.Nat.{div-one, div-div-eq-div-mul, pow-succ', zero-div, div-eq-of-lt, lt-of-lt-of-le, lt-of-le-of-lt, sub-le}
 use native.Mathlib.Decide.{ℕ-discrete}
@@ -200,3 +200,11 @@ unfolding together
 at-together [] k i h = absurd (omega arith)
 at-together (s ∷ ss) k zero h = omega (arith, bit-with s (together ss) k)
 at-together (s ∷ ss) k (suc i) h = omega (arith, bit-with s (together ss) k, at-together ss k i (omega arith))
+
+-- a bit is 1 or 0, and the case knows which
+pub by-bit : {P : Type 0} (s k : ℕ) → (bit s k ≡ 1 → P) → (bit s k ≡ 0 → P) → P
+by-bit s k one none = by-cases (ℕ-discrete (bit s k) 1) one (λ other. none (omega (arith, bit-below-two s k)))
+
+-- of two bits of which the larger is 1, one is 1
+pub max-one : (s t k : ℕ) → max (bit s k) (bit t k) ≡ 1 → (bit s k ≡ 1) ⊎ (bit t k ≡ 1)
+max-one s t k h = by-bit s k inl (λ none. inr (omega arith))

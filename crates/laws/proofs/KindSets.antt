@@ -19,13 +19,8 @@ use Rattle.model.specs.Rosters.{Person, typeAt}
 use Rattle.model.specs.Forms.{cellAt}
 use Rattle.model.specs.Kinds.{isStep, stepsOf, propagation, deletable, both, ofType, rowOfDesign}
 use Rattle.laws.proofs.Tests.{by-test, never-both}
-use Rattle.laws.proofs.Bits.{bit-below-two, bit-of-zero, bit-together, bit-common}
+use Rattle.laws.proofs.Bits.{max-one, bit-of-zero, bit-together, bit-common}
 use Rattle.laws.proofs.Lists.{map-at, length-numbers, numbers-at}
-
--- of two bits of which the larger is 1, one is 1
-pub max-one : (a b : ℕ) → b < 2 → max a b ≡ 1 → (a ≡ 1) ⊎ (b ≡ 1)
-max-one a zero l h = inl (omega arith)
-max-one a (suc b) l h = inr (omega arith)
 
 -- ---- all rights of those elements that pass a test, put together
 
@@ -46,7 +41,7 @@ module _ {A : Type 0} (f : A → ℕ) (test : A → Bool) (k : ℕ) where
       (λ e.
       let both-parts : max (bit (f x) k) (bit (together (map f (those test xs))) k) ≡ 1 = sym (bit-together (f x) (map f (those test xs)) k) ∙ rw e at h in
       ⊎-elim (λ first. (0, omega arith, e, first)) (λ rest. later (one-of-those xs d rest))
-      (max-one (bit (f x) k) (bit (together (map f (those test xs))) k) (bit-below-two (together (map f (those test xs))) k) both-parts))
+      (max-one (f x) (together (map f (those test xs))) k both-parts))
       (λ e. later (one-of-those xs d (rw e at h)))
     where
       later : (i : ℕ) × (i < length xs) × (test (getD xs i d) ≡ true) × (bit (f (getD xs i d)) k ≡ 1)

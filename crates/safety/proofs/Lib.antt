@@ -1,1 +1,3 @@
 pub mod Cases
+pub mod Invariant
+pub mod Starts
