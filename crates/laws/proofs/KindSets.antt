@@ -8,19 +8,19 @@ use mathlib.Core.Path.{_≡_, refl, sym, ap, subst, _∙_}
 use native.Mathlib.Nat.{zero-add}
 use native.Mathlib.Omega.{arith}
 use lib.Dec.{eqb}
-use lib.ListN.{length, getD}
+use lib.ListN.{length, getD, List·getD-eq-default}
 use borrow.Author.Tests.{eqb-true, eq-eqb}
 use Rattle.model.specs.declared.Command.{Command}
-use Rattle.model.specs.Words.{_when_else_, those, numbersFrom}
+use Rattle.model.specs.Words.{_when_else_, any, those, numbersFrom}
 use Rattle.model.specs.Sizes.{rowWords}
 use Rattle.model.specs.Rights.{bit, common, together}
 use Rattle.model.specs.Schemes.{commandIn, noCommand}
 use Rattle.model.specs.Rosters.{Person, typeAt}
 use Rattle.model.specs.Forms.{cellAt}
-use Rattle.model.specs.Kinds.{isStep, stepsOf, propagation, deletable, both, ofType, rowOfDesign}
-use Rattle.laws.proofs.Tests.{by-test, never-both}
-use Rattle.laws.proofs.Bits.{max-one, bit-of-zero, bit-together, bit-common}
-use Rattle.laws.proofs.Lists.{map-at, length-numbers, numbers-at}
+use Rattle.model.specs.Kinds.{isStep, stepsOf, propagation, deletable, both, clash, overlaps, ofType, rowOfDesign}
+use Rattle.laws.proofs.Tests.{by-test, never-both, not-passed, passed}
+use Rattle.laws.proofs.Bits.{max-one, bit-below-two, bit-of-zero, bit-together, bit-common, bits-meet, meets-true}
+use Rattle.laws.proofs.Lists.{map-at, any-at, at-any, none-at, at-none, length-numbers, numbers-at}
 
 -- ---- all rights of those elements that pass a test, put together
 
@@ -87,3 +87,58 @@ pub row-at : (people : List Person) (cells : List ℕ) (t : ℕ) → t < rowWord
 unfolding rowOfDesign
 row-at people cells t l =
     map-at (ofType people cells) (numbersFrom 0 rowWords) 0 0 t l ∙ ap (ofType people cells) (numbers-at 0 rowWords 0 t l ∙ zero-add t)
+
+-- past the last type a row is empty
+pub row-past : (people : List Person) (cells : List ℕ) (t : ℕ) → rowWords ≤ t → cellAt (rowOfDesign people cells) t ≡ 0
+unfolding rowOfDesign
+row-past people cells t l = List·getD-eq-default (map (ofType people cells) (numbersFrom 0 rowWords)) 0 l
+
+-- ---- overlap: two people of one type, and a right that is both propagation and deletable
+
+module _ (commands : List Command) (kind : ℕ) (people : List Person) (cells : List ℕ) where
+  -- a pair of different people of one type that both hold a right of those
+  abbrev pub Pair : ℕ → ℕ → ℕ → Type 0
+  Pair a b k =
+      (a < b) × (typeAt people a ≡ typeAt people b) × (bit (cellAt cells a) k ≡ 1) × (bit (cellAt cells b) k ≡ 1)
+      × (bit (both commands kind) k ≡ 1)
+
+  pair-clashes : (a b k : ℕ) → Pair a b k → clash commands kind people cells a b ≡ true
+  unfolding clash
+  pair-clashes a b k p =
+      let shared : bit (common (cellAt cells a) (cellAt cells b)) k ≡ 1 =
+      bit-common (cellAt cells a) (cellAt cells b) k ∙ omega (arith, p .2, p .3) in
+      simp passed ((p .0, p .1), bits-meet (common (cellAt cells a) (cellAt cells b)) (both commands kind) k shared (p .4))
+
+  clash-pair : (a b : ℕ) → clash commands kind people cells a b ≡ true → (k : ℕ) × Pair a b k
+  unfolding clash
+  clash-pair a b h =
+      let facts = simp passed at h in
+      let (k, shared, both-k) = meets-true (common (cellAt cells a) (cellAt cells b)) (both commands kind) (facts .1) in
+      let of-two : min (bit (cellAt cells a) k) (bit (cellAt cells b) k) ≡ 1 = sym (bit-common (cellAt cells a) (cellAt cells b) k) ∙ shared in
+      (k, (facts .0 .0, facts .0 .1, omega (arith, bit-below-two (cellAt cells a) k), omega (arith, bit-below-two (cellAt cells b) k), both-k))
+
+  everybody-at : (p : ℕ) → p < length people → (p < length (numbersFrom 0 (length people))) × (getD (numbersFrom 0 (length people)) p 0 ≡ p)
+  everybody-at p l = (omega (arith, length-numbers 0 (length people)), numbers-at 0 (length people) 0 p l ∙ zero-add p)
+
+  pub overlap-no-pair : overlaps commands kind people cells ≡ false → (a b k : ℕ) → b < length people → Pair a b k → ⊥
+  unfolding overlaps
+  overlap-no-pair h a b k bl p =
+      let everybody = numbersFrom 0 (length people) in
+      let (la, ea) = everybody-at a (omega (arith, p .0)) in
+      let (lb, eb) = everybody-at b bl in
+      let row : any (clash commands kind people cells a) everybody ≡ false =
+      rw ea at (none-at (λ i. any (clash commands kind people cells i) everybody) everybody 0 h a la) in
+      never-both (pair-clashes a b k p) (rw eb at (none-at (clash commands kind people cells a) everybody 0 row b lb))
+
+  pub no-pair-overlap : ((a b k : ℕ) → b < length people → Pair a b k → ⊥) → overlaps commands kind people cells ≡ false
+  unfolding overlaps
+  no-pair-overlap h =
+      let everybody = numbersFrom 0 (length people) in
+      at-none (λ i. any (clash commands kind people cells i) everybody) everybody 0
+      (λ a la.
+      at-none (clash commands kind people cells (getD everybody a 0)) everybody 0
+      (λ b lb.
+      let bl : b < length people = omega (arith, length-numbers 0 (length people)) in
+      let place : getD everybody b 0 ≡ b = everybody-at b bl .1 in
+      not-passed (clash commands kind people cells (getD everybody a 0) (getD everybody b 0))
+      (λ c. let (k, p) = clash-pair (getD everybody a 0) (getD everybody b 0) c in h (getD everybody a 0) (getD everybody b 0) k (rw place bl) p)))
