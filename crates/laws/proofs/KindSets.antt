@@ -1,17 +1,17 @@
 -- What the sets of a kind hold, a bit at a time: a right stands in them exactly if one of the commands, or one of the people, has it.
 -- Assumes nothing.
-use Prim.Native.Nat.{ℕ, zero, suc, _+_, _≤_, _<_, min, max}
-use mathlib.Core.Bool.{Bool, true, false, _&&_, not}
+use Prim.Native.Nat.{ℕ, zero, suc, _≤_, _<_, min, max}
+use mathlib.Core.Bool.{Bool, true, false}
 use mathlib.Core.List.{List, [], _∷_, map}
-use mathlib.Core.Logic.{⊎-elim, _⊎_, inl, inr}
-use mathlib.Core.Path.{_≡_, refl, sym, ap, subst, _∙_}
+use mathlib.Core.Logic.{⊎-elim}
+use mathlib.Core.Path.{_≡_, sym, ap, subst, _∙_}
 use native.Mathlib.Nat.{zero-add}
 use native.Mathlib.Omega.{arith}
 use lib.Dec.{eqb}
 use lib.ListN.{length, getD, List·getD-eq-default}
 use borrow.Author.Tests.{eqb-true, eq-eqb}
 use Rattle.model.specs.declared.Command.{Command}
-use Rattle.model.specs.Words.{_when_else_, any, those, numbersFrom}
+use Rattle.model.specs.Words.{any, those, numbersFrom}
 use Rattle.model.specs.Sizes.{rowWords}
 use Rattle.model.specs.Rights.{bit, common, together}
 use Rattle.model.specs.Schemes.{commandIn, noCommand}
@@ -20,7 +20,7 @@ use Rattle.model.specs.Forms.{cellAt}
 use Rattle.model.specs.Kinds.{isStep, stepsOf, propagation, deletable, both, clash, overlaps, ofType, rowOfDesign}
 use Rattle.laws.proofs.Tests.{by-test, never-both, not-passed, passed}
 use Rattle.laws.proofs.Bits.{max-one, bit-below-two, bit-of-zero, bit-together, bit-common, bits-meet, meets-true}
-use Rattle.laws.proofs.Lists.{map-at, any-at, at-any, none-at, at-none, length-numbers, numbers-at}
+use Rattle.laws.proofs.Lists.{map-at, none-at, at-none, length-numbers, numbers-at}
 
 -- ---- all rights of those elements that pass a test, put together
 

@@ -1,26 +1,23 @@
 -- The invariant behind demand 3, on one design's cells: one listed row has, at each type, exactly the propagation rights that its people hold together;
 -- those of them that are deletable too are held by one person at most; and every right that a person holds was listed for the person's type.
 -- A command keeps it, by the same command on the row. Assumes nothing.
-use Prim.Native.Nat.{ℕ, zero, suc, _+_, _-_, _≤_, _<_, min, max}
-use mathlib.Core.Bool.{Bool, true, false, _&&_}
-use mathlib.Core.List.{List, []}
+use Prim.Native.Nat.{ℕ, _-_, _≤_, _<_, max}
+use mathlib.Core.Bool.{true, false}
+use mathlib.Core.List.{List}
 use mathlib.Core.Logic.{⊎-elim, _⊎_, inl, inr, _≢_, by-cases}
-use mathlib.Core.Path.{_≡_, refl, sym, ap, subst, _∙_}
+use mathlib.Core.Path.{_≡_, sym, ap, _∙_}
 use native.Mathlib.Decide.{ℕ-discrete}
 use native.Mathlib.Omega.{arith}
-use lib.Dec.{eqb}
-use lib.ListN.{length, getD, set, length-set}
+use lib.ListN.{length, length-set}
 use lib.Seq.{getD-set-same, getD-set-other}
-use borrow.Author.Tests.{eqb-true, eqb-false}
 use Rattle.model.specs.declared.Command.{Command}
-use Rattle.model.specs.Rights.{bit, within, without, common}
+use Rattle.model.specs.Rights.{bit, without, common}
 use Rattle.model.specs.Schemes.{commandIn}
 use Rattle.model.specs.Rosters.{Person, typeAt}
 use Rattle.model.specs.Forms.{cellAt, held, lose, gain, act}
 use Rattle.model.specs.Kinds.{isStep, propagation, deletable, both, isNormal}
 use Rattle.model.specs.Listing.{Row, fires, moved, isDuplicate}
-use Rattle.laws.proofs.Tests.{by-test, never-both}
-use Rattle.laws.proofs.Bits.{by-bit, max-one, bit-below-two, bit-without, bit-with, bit-common, within-true, bits-within, meets-false, bits-meet}
+use Rattle.laws.proofs.Bits.{by-bit, max-one, bit-below-two, bit-without, bit-with, bit-common, within-true, bits-within, meets-false}
 use Rattle.laws.proofs.KindSets.{x-propagates, y-deletes, bit-both}
 use Rattle.laws.proofs.Reach.{Among}
 

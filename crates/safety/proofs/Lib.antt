@@ -1,3 +1,4 @@
 pub mod Cases
 pub mod Invariant
 pub mod Starts
+pub mod Zero

@@ -1,24 +1,21 @@
 -- Where the invariant comes from and how a roster that grows keeps it: a create and a stored design without overlap have it, with the start's row.
 -- Assumes nothing.
-use Prim.Native.Nat.{ℕ, zero, suc, _+_, _≤_, _<_, min, max}
-use mathlib.Core.Bool.{Bool, true, false, _&&_}
-use mathlib.Core.List.{List, []}
-use mathlib.Core.Logic.{_≢_, by-cases}
-use mathlib.Core.Path.{_≡_, refl, sym, ap, subst, _∙_}
+use Prim.Native.Nat.{ℕ, _≤_, _<_}
+use mathlib.Core.Bool.{false}
+use mathlib.Core.List.{List}
+use mathlib.Core.Logic.{by-cases}
+use mathlib.Core.Path.{_≡_, refl, sym, ap, _∙_}
 use native.Mathlib.Decide.{ℕ-discrete, decLt}
 use native.Mathlib.Omega.{arith}
-use lib.Dec.{eqb, ltb}
-use lib.ListN.{length, getD, set, replicate, length-replicate, List·getD-eq-default}
-use lib.Seq.{getD-set-same, getD-set-other}
+use lib.ListN.{length}
 use Rattle.model.specs.declared.Command.{Command}
-use Rattle.model.specs.Words.{any, numbersFrom}
-use Rattle.model.specs.Rights.{bit, common, meets}
+use Rattle.model.specs.Rights.{bit}
 use Rattle.model.specs.Rosters.{Person, typeAt}
 use Rattle.model.specs.Forms.{cellAt, created}
-use Rattle.model.specs.Kinds.{propagation, both, clash, overlaps, ofType, rowOfCreate, rowOfDesign}
+use Rattle.model.specs.Kinds.{overlaps, ofType, rowOfCreate, rowOfDesign}
 use Rattle.model.specs.Listing.{Row}
 use Rattle.laws.proofs.Acts.{created-here, created-elsewhere}
-use Rattle.laws.proofs.Bits.{bit-of-zero, bit-below-two, bit-common, bits-meet}
+use Rattle.laws.proofs.Bits.{bit-of-zero, bit-below-two}
 use Rattle.laws.proofs.KindSets.{type-has, one-of-type, row-at, row-past, overlap-no-pair}
 use Rattle.laws.proofs.Reach.{Among}
 use Rattle.safety.specs.Histories.{Joined}
