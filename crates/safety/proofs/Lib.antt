@@ -2,3 +2,4 @@ pub mod Cases
 pub mod Invariant
 pub mod Starts
 pub mod Zero
+pub mod Needed

@@ -18,7 +18,7 @@ pub record Joined (types : ℕ) (before after : List Person) : Type 0 where
 -- Every roster and store that some history leads to from a first roster and store. The store moves by the definition that the contract of `request`
 -- cites, on the whole store, with its other designs.
 pub data Later (s : Scheme) (people₀ : List Person) (designs₀ : List Design) : List Person → List Design → Type 0 where
-  start : Later s people₀ designs₀ people₀ designs₀
+  first : Later s people₀ designs₀ people₀ designs₀
   joins : {people : List Person} {designs : List Design} → Later s people₀ designs₀ people designs
       → (people′ : List Person) → Joined (s .types) people people′ → Later s people₀ designs₀ people′ designs
   asks : {people : List Person} {designs : List Design} → Later s people₀ designs₀ people designs

@@ -1,3 +1,4 @@
 pub mod Histories
 pub mod Premises
 pub mod Promises
+pub mod Needed
