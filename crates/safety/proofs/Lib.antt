@@ -3,3 +3,4 @@ pub mod Invariant
 pub mod Starts
 pub mod Zero
 pub mod Needed
+pub mod Examples
