@@ -3,7 +3,11 @@ pub mod Bits
 pub mod Lists
 pub mod Digits
 pub mod Codes
+pub mod Forms
+pub mod Checks
+pub mod Stores
+pub mod Requests
+pub mod Kept
+pub mod KindSets
 pub mod Listing
 pub mod Reach
-pub mod Acts
-pub mod KindSets

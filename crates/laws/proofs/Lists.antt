@@ -9,8 +9,8 @@ use native.Mathlib.Omega.{arith, by-contra}
 use native.Mathlib.Nat.{suc-add, zero-mul, suc-mul, add-comm, le-antisymm, zero-add, add-zero, add-suc, add-assoc, add-sub-of-le}
 use borrow.Author.Tests.{eqb-true, eq-eqb, lt-ltb}
 use lib.Dec.{eqb, ltb, leb·suc-suc}
-use lib.ListN.{length, getD, take, drop, set, length-append, length-drop, take-append-drop, List·getD-append}
-use lib.Seq.{take-suc, drop-cons, take-add, drop-drop, take-at, drop-at, take-append-seam, drop-append-seam, getD-take, getD-drop, set-append-seam, append-snoc, map-set-same, take-all, take-append-add, drop-append-add, paste}
+use lib.ListN.{length, getD, take, drop, set, length-append, length-drop, length-set, take-append-drop, List·getD-append}
+use lib.Seq.{take-suc, drop-cons, take-add, drop-drop, take-at, drop-at, take-append-seam, drop-append-seam, getD-take, getD-drop, set-append-seam, append-snoc, map-set-same, take-all, take-append-add, drop-append-add, take-nil, set-append-left, length-take-le, take-length, take-set-lt, drop-set-lt, paste}
 use Rattle.model.specs.Words.{_when_else_, all, any, those, firstPlace, joined, groups, writtenOver, numbersFrom, same, allDiffer}
 use Rattle.laws.proofs.Tests.{by-test, never-both, not-passed, same-test, and-iff, or-true, left-or, right-or, passed}
 
@@ -25,6 +25,12 @@ module _ {A : Type 0} (test : A → Bool) where
   pub at-all : (xs : List A) (d : A) → ((i : ℕ) → i < length xs → test (getD xs i d) ≡ true) → all test xs ≡ true
   at-all [] d h = refl
   at-all (x ∷ xs) d h = and-iff (test x) (all test xs) .1 (h 0 (omega arith), at-all xs d (λ i l. h (suc i) (omega arith)))
+
+  -- where what stands past the end passes too, no bound is asked
+  pub all-get : (xs : List A) (d : A) → test d ≡ true → all test xs ≡ true → (i : ℕ) → test (getD xs i d) ≡ true
+  all-get [] d past h i = past
+  all-get (x ∷ xs) d past h zero = and-iff (test x) (all test xs) .0 h .0
+  all-get (x ∷ xs) d past h (suc i) = all-get xs d past (and-iff (test x) (all test xs) .0 h .1) i
 
   pub any-at : (xs : List A) (d : A) → any test xs ≡ true → (i : ℕ) × (i < length xs) × (test (getD xs i d) ≡ true)
   any-at [] d h = absurd (never-both h refl)
@@ -84,11 +90,49 @@ module _ {A : Type 0} (test : A → Bool) where
   pub any-drop : (xs : List A) (i : ℕ) (d : A) → i < length xs → any test (drop i xs) ≡ (test (getD xs i d) || any test (drop (suc i) xs))
   any-drop xs i d l = ap (any test) (drop-cons xs i d l)
 
+-- what holds at each place of a list
+module _ {A : Type 0} (P : A → Type 0) where
+  abbrev pub Each : List A → A → Type 0
+  Each xs d = (i : ℕ) → i < length xs → P (getD xs i d)
+
+  pub each-set : (xs : List A) (d : A) (i : ℕ) (y : A) → Each xs d → P y → Each (set xs i y) d
+  each-set [] d i y h p k l = h k l
+  each-set (x ∷ xs) d zero y h p zero l = p
+  each-set (x ∷ xs) d zero y h p (suc k) l = h (suc k) l
+  each-set (x ∷ xs) d (suc i) y h p zero l = h 0 (omega arith)
+  each-set (x ∷ xs) d (suc i) y h p (suc k) l = each-set xs d i y (λ j m. h (suc j) (omega arith)) p k (omega arith)
+
+  -- the same where it holds past the end too
+  pub every-set : (xs : List A) (d : A) (i : ℕ) (y : A) → ((k : ℕ) → P (getD xs k d)) → P y → (k : ℕ) → P (getD (set xs i y) k d)
+  every-set [] d i y h p k = h k
+  every-set (x ∷ xs) d zero y h p zero = p
+  every-set (x ∷ xs) d zero y h p (suc k) = h (suc k)
+  every-set (x ∷ xs) d (suc i) y h p zero = h 0
+  every-set (x ∷ xs) d (suc i) y h p (suc k) = every-set xs d i y (λ j. h (suc j)) p k
+
+  pub each-snoc : (xs : List A) (d y : A) → Each xs d → P y → Each (xs ++ y ∷ []) d
+  each-snoc [] d y h p zero l = p
+  each-snoc [] d y h p (suc k) l = absurd (omega arith)
+  each-snoc (x ∷ xs) d y h p zero l = h 0 (omega arith)
+  each-snoc (x ∷ xs) d y h p (suc k) l = each-snoc xs d y (λ j m. h (suc j) (omega arith)) p k (omega arith)
+
 -- inside a list it doesn't matter what stands past the end
 pub map-at : {A B : Type 0} (f : A → B) (xs : List A) (d : A) (e : B) (i : ℕ) → i < length xs → getD (map f xs) i e ≡ f (getD xs i d)
 map-at f [] d e i l = absurd (omega arith)
 map-at f (x ∷ xs) d e zero l = refl
 map-at f (x ∷ xs) d e (suc i) l = map-at f xs d e i (omega arith)
+
+-- a function that is undone at each element of a list is undone on the list
+pub map-back : {A B : Type 0} (f : A → B) (g : B → A) (xs : List A) (d : A) → ((i : ℕ) → i < length xs → g (f (getD xs i d)) ≡ getD xs i d)
+    → map g (map f xs) ≡ xs
+map-back f g [] d h = refl
+map-back {A} f g (x ∷ xs) d h =
+    ap₂ (λ (a : A) (r : List A). a ∷ r) (h 0 (omega arith)) (map-back f g xs d (λ i l. h (suc i) (omega arith)))
+
+pub map-set : {A B : Type 0} (f : A → B) (xs : List A) (i : ℕ) (y : A) → map f (set xs i y) ≡ set (map f xs) i (f y)
+map-set f [] i y = refl
+map-set f (x ∷ xs) zero y = refl
+map-set {B} f (x ∷ xs) (suc i) y = ap (λ (r : List B). f x ∷ r) (map-set f xs i y)
 
 module _ {A B : Type 0} (f : A → B) (test : B → Bool) where
   pub all-map : (xs : List A) → all test (map f xs) ≡ all (λ x. test (f x)) xs
@@ -232,6 +276,27 @@ pub differ-take-suc : (xs : List (List ℕ)) (i : ℕ) (d : List ℕ) → i < le
     → allDiffer (take (suc i) xs) ≡ (allDiffer (take i xs) && not (any (same (getD xs i d)) (take i xs)))
 differ-take-suc xs i d l = ap allDiffer (take-suc xs i d l) ∙ differ-snoc (take i xs) (getD xs i d)
 
+-- ---- a part of a list, and a store behind a seam
+
+module _ {A : Type 0} where
+  pub drop-take : (n m : ℕ) (xs : List A) → drop n (take (n + m) xs) ≡ take m (drop n xs)
+  drop-take zero m xs = rw zero-add refl
+  drop-take (suc n) m [] = rw (suc-add n m) (sym (take-nil m))
+  drop-take (suc n) m (x ∷ xs) = rw (suc-add n m) (drop-take n m xs)
+
+  pub set-append-add : (xs ys : List A) (i : ℕ) (a : A) → set (xs ++ ys) (length xs + i) a ≡ xs ++ set ys i a
+  set-append-add [] ys i a = rw zero-add refl
+  set-append-add (x ∷ xs) ys i a = rw (suc-add (length xs) i) (ap (λ (r : List A). x ∷ r) (set-append-add xs ys i a))
+
+  -- a store before the part that is replaced
+  pub paste-set : (xs : List A) (i : ℕ) (a : A) (at : ℕ) (ys : List A) (n : ℕ) → i < at → at ≤ length xs
+      → paste (set xs i a) at ys n ≡ set (paste xs at ys n) i a
+  paste-set xs i a at ys n l m =
+      let k : i < length (take at xs) = omega (arith, length-take-le at xs m) in
+      let k' : i < length (take at xs ++ take n ys) = omega (arith, length-append (take at xs) (take n ys)) in
+      rw (take-set-lt at xs i a l, drop-set-lt (at + n) xs i a (omega arith), set-append-left (take at xs ++ take n ys) (drop (at + n) xs) i a k', set-append-left (take at xs) (take n ys) i a k)
+      refl
+
 -- ---- lists cut into groups of one size, and joined again
 
 pub one-more : (n size : ℕ) → suc n * size ≡ size + n * size
@@ -311,6 +376,20 @@ module _ {A : Type 0} (size : ℕ) where
       rw (one-more i size, before, after, append-assoc ys (take (i * size) js) (take size xs), append-assoc ys (take (i * size) js ++ take size xs) (drop (i * size + size) js))
       (ap (λ (r : List A). ys ++ r) (joined-set yss d (λ j k. h (suc j) (omega arith)) i xs (omega arith) m))
 
+  -- one element of one of the lists anew is one element of the whole anew
+  pub joined-set-one : (xss : List (List A)) (d : List A) → Sized xss d → (i j : ℕ) (a : A) → i < length xss → j < size
+      → joined (set xss i (set (getD xss i d) j a)) ≡ set (joined xss) (i * size + j) a
+  joined-set-one [] d h i j a l m = absurd (omega arith)
+  joined-set-one (xs ∷ xss) d h zero j a l m =
+      let k : j < length xs = omega (arith, h 0 (omega arith)) in
+      rw (zero-mul size, zero-add j) (sym (set-append-left xs (joined xss) j a k))
+  joined-set-one (xs ∷ xss) d h (suc i) j a l m =
+      let e : length xs ≡ size = h 0 (omega arith) in
+      let js = joined xss in
+      let behind : set (xs ++ js) (size + (i * size + j)) a ≡ xs ++ set js (i * size + j) a = rw e at (set-append-add xs js (i * size + j) a) in
+      rw (one-more i size, add-assoc size (i * size) j, behind)
+      (ap (λ (r : List A). xs ++ r) (joined-set-one xss d (λ k n. h (suc k) (omega arith)) i j a (omega arith) m))
+
 -- ---- lent memory that is written from its beginning
 
 module _ {A : Type 0} where
@@ -344,6 +423,34 @@ module _ {A : Type 0} where
       let e : length (new ++ a ∷ []) ≡ suc (length new) = length-append new (a ∷ []) ∙ omega arith in
       let rest = drop (suc (length new)) old in
       rw (e, drop-cons old (length new) a l, set-append-seam new (getD old (length new) a) rest a) (append-snoc new a rest)
+
+  -- memory written with its own beginning stays
+  pub written-own : (k : ℕ) (old : List A) → k ≤ length old → writtenOver (take k old) old ≡ old
+  unfolding writtenOver
+  written-own k old l = rw (length-take-le k old l) (take-append-drop k old)
+
+  -- one word anew among those that are written
+  pub written-set : (new old : List A) (i : ℕ) (a : A) → i < length new → writtenOver (set new i a) old ≡ set (writtenOver new old) i a
+  unfolding writtenOver
+  written-set new old i a l = rw (length-set new i a) (sym (set-append-left new (drop (length new) old) i a l))
+
+  -- more words, pasted behind those that are written
+  pub written-append : (new more old : List A) → writtenOver (new ++ more) old ≡ paste (writtenOver new old) (length new) more (length more)
+  unfolding writtenOver
+  written-append new more old =
+      let rest = drop (length new) old in
+      rw (take-append-seam new rest, take-length more, drop-append-add new rest (length more), drop-drop (length more) (length new) old, length-append new more)
+      refl
+
+  -- what is written last stands, where it is no shorter
+  pub written-again : (new mid old : List A) → length mid ≤ length new → writtenOver new (writtenOver mid old) ≡ writtenOver new old
+  unfolding writtenOver
+  written-again new mid old l =
+      let k = length new - length mid in
+      let e : length mid + k ≡ length new = add-sub-of-le l in
+      ap (λ (r : List A). new ++ r)
+      (ap (λ (n : ℕ). drop n (mid ++ drop (length mid) old)) (sym e) ∙ drop-append-add mid (drop (length mid) old) k
+      ∙ drop-drop k (length mid) old ∙ ap (λ (n : ℕ). drop n old) e)
 
 -- ---- numbers in a row
 

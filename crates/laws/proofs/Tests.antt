@@ -1,10 +1,12 @@
 -- Laws of tests that are joined by "and", "or" and "not": by the two values of each. Where a chain of tests passed, `simp passed at h` is the tuple of
--- plain facts that they tell, and `simp passed t` proves a chain from that tuple. Assumes nothing.
+-- plain facts that they tell, and `simp passed t` proves a chain from that tuple; where a chain of refusals came to 0, `simp accepted` does the same.
+-- Assumes nothing.
 use Prim.Native.Nat.{ℕ, _≤_, _<_}
 use mathlib.Core.Path.{_≡_, refl, sym, _∙_}
 use mathlib.Core.Bool.{Bool, true, false, _&&_, _||_, not, true≢false}
 use mathlib.Core.Logic.{_⊎_, inl, inr, _↔_}
 use lib.Dec.{leb, eqb}
+use Rattle.model.specs.Words.{_when_else_}
 use borrow.Author.Tests.{leb-true, leb-false, le-leb, lt-leb, eqb-true, eqb-false, eq-eqb, ne-eqb}
 
 -- a test passes or fails, and the case knows which
@@ -56,6 +58,13 @@ pub eqb-iff-false : (a b : ℕ) → (eqb a b ≡ false) ↔ (a ≡ b → ⊥)
 eqb-iff-false a b = (eqb-false a b, ne-eqb a b)
 
 pub ruleset passed = (and-iff, not-iff, leb-iff, eqb-iff, or-iff, not-iff-false, leb-iff-false, eqb-iff-false)
+
+-- a chain of refusals that comes to 0: its first test failed, and so did the rest
+pub refused-iff : (b : Bool) (n m : ℕ) → eqb n 0 ≡ false → ((n when b else m) ≡ 0) ↔ ((b ≡ false) × (m ≡ 0))
+refused-iff true n m some = (λ h. absurd (eqb-false n 0 some h), λ p. absurd (never-both refl (p .0)))
+refused-iff false n m some = (λ h. (refl, h), λ p. p .1)
+
+pub ruleset accepted = (refused-iff, passed)
 
 -- ---- a test of two that passed, and one of two that failed
 

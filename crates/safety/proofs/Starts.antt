@@ -14,7 +14,7 @@ use Rattle.model.specs.Rosters.{Person, typeAt}
 use Rattle.model.specs.Forms.{cellAt, created}
 use Rattle.model.specs.Kinds.{overlaps, ofType, rowOfCreate, rowOfDesign}
 use Rattle.model.specs.Listing.{Row}
-use Rattle.laws.proofs.Acts.{created-here, created-elsewhere}
+use Rattle.laws.proofs.Forms.{created-here, created-other}
 use Rattle.laws.proofs.Bits.{bit-of-zero, bit-below-two}
 use Rattle.laws.proofs.KindSets.{type-has, one-of-type, row-at, row-past, overlap-no-pair}
 use Rattle.laws.proofs.Reach.{Among}
@@ -26,8 +26,8 @@ use Rattle.safety.proofs.Invariant.{Inv}
 -- whoever holds something is the creator, and it is in Z
 creator : (c : Command) (n a p k : ℕ) → a < n → bit (cellAt (created c a n) p) k ≡ 1 → (p ≡ a) × (bit (c .z) k ≡ 1)
 creator c n a p k l h =
-    by-cases (ℕ-discrete p a) (λ e. (e, rw (created-here c n a l) at (rw e at h)))
-    (λ ne. absurd (omega (arith, bit-of-zero k, rw (created-elsewhere c n a p ne) at h)))
+    by-cases (ℕ-discrete p a) (λ e. (e, rw (created-here c a n l) at (rw e at h)))
+    (λ ne. absurd (omega (arith, bit-of-zero k, rw (created-other c a n p ne) at h)))
 
 module _ (commands : List Command) (kind : ℕ) (people : List Person) (rows : List Row) where
   pub create-has : (c : Command) (n a : ℕ) → a < n → a < length people → c .source < 8 → typeAt people a ≡ c .source
@@ -39,7 +39,7 @@ module _ (commands : List Command) (kind : ℕ) (people : List Person) (rows : L
     seen = λ p k pl prop h. in-row p k h;
     there = λ t k prop h.
         let (e, z) = creator c 8 (c .source) t k small h in
-        (a, al, ta ∙ sym e, rw (created-here c n a l) z);
+        (a, al, ta ∙ sym e, rw (created-here c a n l) z);
     apart = λ p q k pl ql ne t b hp hq. ne (creator c n a p k l hp .0 ∙ sym (creator c n a q k l hq .0));
     known = λ p k pl h. (rowOfCreate c, listed, in-row p k h);
   }
@@ -47,7 +47,7 @@ module _ (commands : List Command) (kind : ℕ) (people : List Person) (rows : L
       in-row : (p k : ℕ) → bit (cellAt (created c a n) p) k ≡ 1 → bit (cellAt (created c (c .source) 8) (typeAt people p)) k ≡ 1
       in-row p k h =
           let (e, z) = creator c n a p k l h in
-          rw (ap (typeAt people) e ∙ ta, created-here c 8 (c .source) small) z
+          rw (ap (typeAt people) e ∙ ta, created-here c (c .source) 8 small) z
 
   -- ---- a stored design without overlap: the row holds what the people of each type hold together
 
