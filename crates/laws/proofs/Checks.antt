@@ -2,12 +2,12 @@
 -- chain is read at every place. Assumes nothing.
 use Prim.Native.Nat.{ℕ, _+_, _-_, _^_, _≤_, _<_}
 use mathlib.Core.Path.{_≡_, refl, sym, ap, _∙_}
-use mathlib.Core.Bool.{Bool, true, false}
+use mathlib.Core.Bool.{Bool, true, false, not}
 use mathlib.Core.List.{List, [], _∷_, _++_, map, map-append}
 use native.Mathlib.Nat.{add-sub-of-le}
 use native.Mathlib.Omega.{arith}
-use borrow.Author.Tests.{eqb-true, eq-eqb}
-use lib.Dec.{eqb}
+use borrow.Author.Tests.{eqb-true, eq-eqb, ltb-true, not-false}
+use lib.Dec.{eqb, ltb}
 use lib.ListN.{length, getD, drop, set, length-map, length-set, length-append}
 use lib.Pow.{pow-pos}
 use lib.Seq.{getD-drop, map-set-same}
@@ -16,6 +16,7 @@ use Rattle.model.specs.Words.{any, same, allDiffer}
 use Rattle.model.specs.Rights.{fitsRights}
 use Rattle.model.specs.Codes.{spelled}
 use Rattle.model.specs.Schemes.{Scheme, isCreate, isGrant, noCommand, commandIsValid, schemeIsValid, schemeNumber}
+use Rattle.model.specs.Rosters.{Person, nobody, typeAt, outOfRange, rosterNumber}
 use Rattle.model.specs.Stores.{Design, noDesign, exists, isSound, fitsDesign, storeNumber}
 use Rattle.laws.proofs.Tests.{passed, accepted}
 use Rattle.laws.proofs.Lists.{all-at, at-all, all-get, none-at, at-none, Each, each-set, each-snoc, map-at, any-map, first-any, same-sym, differ-at, differ-snoc}
@@ -184,3 +185,24 @@ module _ (kinds rights people : ℕ) (designs : List Design) (c : Checked kinds 
         differ = rw (map-set-same (λ d. d .code) designs place d noDesign refl) (c .differ);
         fit = each-set (Fits kinds rights people) designs noDesign place d (c .fit) f;
       }
+
+-- ---- a roster
+
+pub record ValidRoster (types : ℕ) (people : List Person) : Type 0 where
+  pub some-people : 1 ≤ length people
+  pub few : length people ≤ 32
+  pub type-below : (p : ℕ) → p < length people → typeAt people p < types
+  pub spelt : Each (λ p. spelled (p .code) ≡ true) people nobody
+  pub differ : allDiffer (map (λ p. p .code) people) ≡ true
+
+pub valid-roster : (types : ℕ) (people : List Person) → rosterNumber types people ≡ 0 → ValidRoster types people
+unfolding rosterNumber outOfRange
+valid-roster types people h =
+    let p = simp accepted at h in
+    record {
+      some-people = p .0 .0 .0;
+      few = p .0 .0 .1;
+      type-below = λ i l. ltb-true (typeAt people i) types (not-false (ltb (typeAt people i) types) (none-at (λ q. not (ltb (q .type) types)) people nobody (p .0 .1) i l));
+      spelt = λ i l. not-false (spelled (getD people i nobody .code)) (none-at (λ q. not (spelled (q .code))) people nobody (p .1 .0) i l);
+      differ = p .1 .1 .0;
+    }

@@ -16,6 +16,7 @@ use Rattle.model.specs.Schemes.{commandIn}
 use Rattle.model.specs.Listing.{Row, fires, moved, put, tried, expanded, listedFrom, listing, Reach, here, next}
 use Rattle.laws.proofs.Tests.{by-test, not-passed, left-or, right-or}
 use Rattle.laws.proofs.Lists.{any-at, at-any, any-append, same-iff, same-refl, differ-snoc, differ-at}
+use Rattle.laws.proofs.Forms.{act-length}
 use Rattle.laws.proofs.Listing.{Grown, expanded-grows, grown-keeps, grown-longer, grown-refl, grown-trans}
 
 -- the row is among the rows
@@ -253,3 +254,10 @@ module _ (commands : List Command) (kind : ℕ) where
         )) rows (grown-refl rows, o) .1)
         (λ at at′ rows l o. o)
         (λ i p l. absurd (omega arith))
+
+-- every state that is reached has as many cells as the start
+pub reach-length : {commands : List Command} {kind : ℕ} {start row : Row} → Reach commands kind start row → length row ≡ length start
+unfolding moved
+reach-length here = refl
+reach-length {commands} {kind} {start} (next {row = row} k r b f) =
+    act-length (commandIn commands k) (commandIn commands k .source) (commandIn commands k .destination) row ∙ reach-length r

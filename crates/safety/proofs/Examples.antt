@@ -14,9 +14,9 @@ use Rattle.model.specs.Schemes.{Scheme, commandAt}
 use Rattle.model.specs.Rosters.{Person, rosterWords, typeAt}
 use Rattle.model.specs.Stores.{Design}
 use Rattle.model.specs.Forms.{cellAt}
-use Rattle.model.specs.Requests.{Request, requested}
+use Rattle.model.specs.Requests.{Request}
 use Rattle.model.specs.Verdicts.{Start, startOfCreate, verdictFrom}
-use Rattle.model.specs.Outcomes.{Handed, peopleIn, designsIn}
+use Rattle.model.specs.Outcomes.{Handed}
 use Rattle.model.specs.Mill.{schemeA, release, millScheme, command}
 use Rattle.model.proofs.Computes.{computes}
 use Rattle.safety.specs.Histories.{Joined, Later, first, joins, asks}

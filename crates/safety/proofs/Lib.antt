@@ -4,3 +4,6 @@ pub mod Starts
 pub mod Zero
 pub mod Needed
 pub mod Examples
+pub mod Follow
+pub mod Moments
+pub mod Promised

@@ -19,7 +19,7 @@ use Rattle.model.specs.Kinds.{firstNotNormal}
 use Rattle.model.specs.Listing.{hasDuplicate}
 use Rattle.model.specs.Verdicts.{Start, rowsFrom}
 use Rattle.model.specs.Outcomes.{Handed}
-use Rattle.model.specs.Mill.{command, commandsA, schemeA, schemeB}
+use Rattle.model.specs.Mill.{command, schemeB}
 use Rattle.model.proofs.Computes.{computes}
 use Rattle.safety.specs.Histories.{Later, first, asks}
 use Rattle.safety.specs.Premises.{Begins, withDesign, withCreate}

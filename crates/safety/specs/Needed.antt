@@ -14,7 +14,7 @@ use Rattle.model.specs.Forms.{cellAt}
 use Rattle.model.specs.Stores.{Design}
 use Rattle.model.specs.Kinds.{firstNotNormal, overlaps, rowOfDesign}
 use Rattle.model.specs.Listing.{hasDuplicate}
-use Rattle.model.specs.Verdicts.{Question, Start, rowsFrom, holds}
+use Rattle.model.specs.Verdicts.{Start, rowsFrom, holds}
 use Rattle.safety.specs.Histories.{Later}
 use Rattle.safety.specs.Premises.{Begins}
 use Rattle.safety.specs.Promises.{cellsOf}
