@@ -1,5 +1,5 @@
--- What the calls keep of a store: a store that passes its check passes it after every request, what a request does not name stays as it was, and lent
--- words mean after it what the definition on records gives. By the two cases of a request that is answered 0. Assumes nothing.
+-- What the calls keep of a store: a store that passes its check passes it after every request and every batch, by the two cases of a request that is
+-- answered 0, and lent words mean afterwards what the definition on records gives. Assumes nothing.
 use Prim.Native.Nat.{ℕ, _≤_}
 use mathlib.Core.Path.{_≡_, _∙_}
 use mathlib.Core.Bool.{true}
@@ -19,9 +19,9 @@ use Rattle.laws.proofs.Tests.{passed, accepted}
 use Rattle.laws.proofs.Lists.{Each, each-snoc, length-groups}
 use Rattle.laws.proofs.Codes.{packed-fits}
 use Rattle.laws.proofs.Forms.{act-length, act-other, act-below, created-length, created-other, created-below}
-use Rattle.laws.proofs.Stores.{Words, Lent, store-length, Celled, Whole, store-celled, words-of-store, store-of-words, written-twice, store-words-length, store-count, Fitting, words-kept, cells-celled}
+use Rattle.laws.proofs.Stores.{Words, Lent, store-length, Celled, Whole, store-celled, store-of-words, written-twice, store-words-length, store-count, Fitting, words-kept, cells-celled}
 use Rattle.laws.proofs.Checks.{ValidScheme, valid-scheme, Checked, checked, checked-zero, checked-more, checked-anew}
-use Rattle.laws.proofs.Requests.{Creates, Acts, requested-refused, by-request, requested-grows, batched-snoc, numbers-snoc, by-requests}
+use Rattle.laws.proofs.Requests.{Creates, Acts, by-request, requested-grows, batched-snoc, numbers-snoc, by-requests}
 
 -- ---- a store that passed its check passes it again
 
@@ -119,7 +119,7 @@ lent-kept s people designs w valid g lent = record {
   room = rw (store-words-length designs w (g .celled) (g .check .few) (lent .room)) (lent .room);
 }
 
-module _ (s : Scheme) (people : List Person) (valid : ValidScheme s) (w : List ℕ) (lent : Lent w) (g : Good s people (storeOf w)) where
+module _ (s : Scheme) (people : List Person) (valid : ValidScheme s) (w : List ℕ) (g : Good s people (storeOf w)) where
   pub meaning-requested : (q : Request) → storeOf (storeWords (requested s people (storeOf w) q) w) ≡ requested s people (storeOf w) q
   meaning-requested q = store-of-words (requested s people (storeOf w) q) w (whole s people _ (good-requested s people valid (storeOf w) g q))
 
@@ -141,10 +141,6 @@ module _ (s : Scheme) (people : List Person) (valid : ValidScheme s) (w : List �
       → batchNumbers s people (storeOf w) (qs ++ q ∷ [])
       ≡ batchNumbers s people (storeOf w) qs ++ requestNumber s people (storeOf (storeWords (batched s people (storeOf w) qs) w)) q ∷ []
   number-step qs q = rw (meaning-batched qs) (numbers-snoc s people (storeOf w) qs q)
-
-  -- a refused request changes no word
-  pub refused-words : (q : Request) → (requestNumber s people (storeOf w) q ≡ 0 → ⊥) → storeWords (requested s people (storeOf w) q) w ≡ w
-  refused-words q refused = rw (requested-refused s people (storeOf w) q refused) (words-of-store w lent)
 
 -- ---- what is handed over, where it is accepted
 

@@ -3,10 +3,9 @@
 use Prim.Native.Nat.{ℕ, _+_, _≤_, _<_}
 use mathlib.Core.Path.{_≡_, refl, sym, ap, _∙_}
 use mathlib.Core.Bool.{Bool, true}
-use mathlib.Core.Logic.{_≢_, _⊎_, by-cases}
+use mathlib.Core.Logic.{_≢_, _⊎_}
 use mathlib.Core.List.{List, [], _∷_}
 use native.Mathlib.Nat.{add-zero}
-use native.Mathlib.Decide.{ℕ-discrete}
 use native.Mathlib.Omega.{arith}
 use lib.ListN.{length, getD, set, take, length-append, length-set}
 use lib.Seq.{take-append-seam, getD-append-seam, getD-set-same, getD-set-other, paste}
@@ -16,11 +15,11 @@ use Rattle.model.specs.Schemes.{Scheme, commandAt}
 use Rattle.model.specs.Rosters.{Person}
 use Rattle.model.specs.Forms.{cellAt, lose, gain, act}
 use Rattle.model.specs.Stores.{Design, noDesign, placeOf, exists, designAt, wordsOfDesign, storeOf, storeWords}
-use Rattle.model.specs.Requests.{Request, newDesign, actedOn, requested}
+use Rattle.model.specs.Requests.{Request, requestNumber, newDesign, actedOn, requested}
 use Rattle.laws.proofs.Lists.{first-any, first-append-some, first-append-none, first-set, same-refl, paste-outside}
 use Rattle.laws.proofs.Forms.{act-other, created-length}
-use Rattle.laws.proofs.Stores.{Lent, recordPlace, cellPlace, store-length, cell-at, cells-length, cells-written, create-written}
-use Rattle.laws.proofs.Requests.{Creates, Acts, requested-create, requested-act}
+use Rattle.laws.proofs.Stores.{Lent, recordPlace, cellPlace, store-length, cell-at, words-of-store, cell-set-at, cells-written, create-written}
+use Rattle.laws.proofs.Requests.{Creates, Acts, requested-refused, requested-create, requested-act}
 
 -- ---- on records
 
@@ -79,7 +78,11 @@ module _ (s : Scheme) (people : List Person) (designs : List Design) (q : Reques
 
 -- ---- on words
 
-module _ (s : Scheme) (people : List Person) (most : length people ≤ 32) (w : List ℕ) (lent : Lent w) (q : Request) where
+module _ (s : Scheme) (people : List Person) (w : List ℕ) (lent : Lent w) (q : Request) where
+  -- a refused request changes no word
+  pub refused-words : (requestNumber s people (storeOf w) q ≡ 0 → ⊥) → storeWords (requested s people (storeOf w) q) w ≡ w
+  refused-words refused = rw (requested-refused s people (storeOf w) q refused) (words-of-store w lent)
+
   module _ (k : Creates s people (storeOf w) q) where
     pub create-words : storeWords (requested s people (storeOf w) q) w
         ≡ paste (set w 0 (getD w 0 0 + 1)) (recordPlace (getD w 0 0)) (wordsOfDesign (newDesign (commandAt s (q .command)) q)) 36
@@ -97,24 +100,7 @@ module _ (s : Scheme) (people : List Person) (most : length people ≤ 32) (w : 
         ∙ paste-outside (set w 0 (n + 1)) (recordPlace n) (wordsOfDesign new) 36 0 (omega (arith, length-set w 0 (n + 1))) (omega (arith, cells)) i outside
         ∙ getD-set-other w 0 i (n + 1) 0 later
 
-  module _ (k : Acts s people (storeOf w) q) where
-    -- one cell of the design anew is the same word anew
-    pub cell-anew : (a d v : ℕ) → a < 32 → d < 32
-        → getD (set (designAt (q .code) (storeOf w) .cells) a v) d 0
-        ≡ getD (set w (cellPlace (placeOf (q .code) (storeOf w)) a) v) (cellPlace (placeOf (q .code) (storeOf w)) d) 0
-    cell-anew a d v la ld =
-        let place = placeOf (q .code) (storeOf w) in
-        let cells = designAt (q .code) (storeOf w) .cells in
-        let inside : place < getD w 0 0 = omega (arith, store-length w, k .present) in
-        let size : length cells ≡ 32 = cells-length w place inside (lent .room) (omega (arith, lent .few)) in
-        let room : cellPlace place a < length w = omega (arith, lent .few, lent .room) in
-        by-cases (ℕ-discrete d a)
-        (λ equal.
-        rw equal (getD-set-same cells a v 0 (omega arith) ∙ sym (getD-set-same w (cellPlace place a) v 0 room)))
-        (λ other.
-        getD-set-other cells a d v 0 other ∙ cell-at w place inside d ld
-        ∙ sym (getD-set-other w (cellPlace place a) (cellPlace place d) v 0 (λ e. other (omega arith))))
-
+  module _ (most : length people ≤ 32) (k : Acts s people (storeOf w) q) where
     -- a grant or an internal acts on the store's words as on cells
     pub act-words : storeWords (requested s people (storeOf w) q) w
         ≡ act (commandAt s (q .command)) (cellPlace (placeOf (q .code) (storeOf w)) (q .source)) (cellPlace (placeOf (q .code) (storeOf w)) (q .destination)) w
@@ -132,7 +118,7 @@ module _ (s : Scheme) (people : List Person) (most : length people ≤ 32) (w : 
         let u = withThose (cellAt (set cells a v) d) (c .z) in
         rw (requested-act s people (storeOf w) q k)
         (cells-written w lent place inside a v d u la ld
-        ∙ rw (cell-anew a d v la ld, cell-at w place inside a la) refl)
+        ∙ rw (cell-set-at w lent place inside a v d la ld, cell-at w place inside a la) refl)
 
     pub act-untouched : (i : ℕ) → i ≢ cellPlace (placeOf (q .code) (storeOf w)) (q .source) → i ≢ cellPlace (placeOf (q .code) (storeOf w)) (q .destination)
         → getD (storeWords (requested s people (storeOf w) q) w) i 0 ≡ getD w i 0
