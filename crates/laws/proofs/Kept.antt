@@ -1,19 +1,27 @@
--- What the calls keep of a store: a store that passes its check passes it after every request, what a request does not name stays as it was, and lent
--- words mean after it what the definition on records gives. By the two cases of a request that is answered 0. Assumes nothing.
+-- What the calls keep of a store: a store that passes its check passes it after every request and every batch, by the two cases of a request that is
+-- answered 0, and lent words mean afterwards what the definition on records gives. Assumes nothing.
+use Prim.Native.Nat.{ℕ, _≤_}
 use mathlib.Core.Path.{_≡_, _∙_}
+use mathlib.Core.Bool.{true}
 use mathlib.Core.List.{List, [], _∷_, _++_}
+use native.Mathlib.Nat.{lt-of-lt-of-le}
 use native.Mathlib.Omega.{arith}
-use lib.ListN.{length, getD, set}
+use lib.ListN.{length, getD, set, length-map}
+use lib.Pow.{pow-mono}
+use Rattle.model.specs.Words.{groups}
 use Rattle.model.specs.Schemes.{Scheme, commandAt, schemeNumber}
-use Rattle.model.specs.Rosters.{Person}
+use Rattle.model.specs.Rosters.{Person, personOf, rosterOf, outOfRange, rosterNumber}
 use Rattle.model.specs.Forms.{act}
-use Rattle.model.specs.Stores.{Design, noDesign, placeOf, designAt, storeNumber}
-use Rattle.model.specs.Requests.{Request, newDesign, actedOn, requested, batched}
-use Rattle.laws.proofs.Lists.{each-snoc}
+use Rattle.model.specs.Stores.{Design, noDesign, placeOf, designAt, storeOf, storeWords, storeNumber}
+use Rattle.model.specs.Requests.{Request, newDesign, actedOn, requestNumber, requested, batchNumbers, batched}
+use Rattle.model.specs.Outcomes.{Handed, peopleIn, designsIn, hasRooms, handedNumber}
+use Rattle.laws.proofs.Tests.{passed, accepted}
+use Rattle.laws.proofs.Lists.{Each, each-snoc, length-groups}
+use Rattle.laws.proofs.Codes.{packed-fits}
 use Rattle.laws.proofs.Forms.{act-length, act-other, act-below, created-length, created-other, created-below}
-use Rattle.laws.proofs.Stores.{Celled, cells-celled}
+use Rattle.laws.proofs.Stores.{Words, Lent, store-length, Celled, Whole, store-celled, store-of-words, written-twice, store-words-length, store-count, Fitting, words-kept, cells-celled}
 use Rattle.laws.proofs.Checks.{ValidScheme, valid-scheme, Checked, checked, checked-zero, checked-more, checked-anew}
-use Rattle.laws.proofs.Requests.{Creates, Acts, by-request, by-requests}
+use Rattle.laws.proofs.Requests.{Creates, Acts, by-request, requested-grows, batched-snoc, numbers-snoc, by-requests}
 
 -- ---- a store that passed its check passes it again
 
@@ -62,17 +70,111 @@ module _ (s : Scheme) (people : List Person) (valid : ValidScheme s) (designs : 
   pub good-requested : Good s people (requested s people designs q)
   good-requested = by-request s people designs q (Good s people) good good-create good-act
 
+module _ (s : Scheme) (people : List Person) (valid : ValidScheme s) (designs : List Design) (good : Good s people designs) where
+  pub good-batched : (qs : List Request) → Good s people (batched s people designs qs)
+  good-batched qs = by-requests s people (Good s people) (λ between q h. good-requested s people valid between h q) designs qs good
+
+-- the same, by the numbers of the checks
+module _ (s : Scheme) (people : List Person) (designs : List Design) where
+  pub good : storeNumber (s .kinds) (s .rights) (length people) designs ≡ 0 → Celled designs → Good s people designs
+  good check celled = record { check = checked (s .kinds) (s .rights) (length people) designs check; celled = celled }
+
+  pub good-zero : Good s people designs → storeNumber (s .kinds) (s .rights) (length people) designs ≡ 0
+  good-zero g = checked-zero (s .kinds) (s .rights) (length people) designs (g .check)
+
 module _ (s : Scheme) (people : List Person) (valid : schemeNumber s ≡ 0) (designs : List Design)
     (check : storeNumber (s .kinds) (s .rights) (length people) designs ≡ 0) (celled : Celled designs) where
-  pub good : Good s people designs
-  good = record { check = checked (s .kinds) (s .rights) (length people) designs check; celled = celled }
+  pub kept-requested : (q : Request)
+      → (storeNumber (s .kinds) (s .rights) (length people) (requested s people designs q) ≡ 0) × Celled (requested s people designs q)
+  kept-requested q =
+      let g = good-requested s people (valid-scheme s valid) designs (good s people designs check celled) q in
+      (good-zero s people (requested s people designs q) g, g .celled)
 
-  pub good-batched : (qs : List Request) → Good s people (batched s people designs qs)
-  good-batched qs =
-      by-requests s people (Good s people) (λ between q h. good-requested s people (valid-scheme s valid) between h q) designs qs good
+  pub kept-batched : (qs : List Request)
+      → (storeNumber (s .kinds) (s .rights) (length people) (batched s people designs qs) ≡ 0) × Celled (batched s people designs qs)
+  kept-batched qs =
+      let g = good-batched s people (valid-scheme s valid) designs (good s people designs check celled) qs in
+      (good-zero s people (batched s people designs qs) g, g .celled)
 
-  pub kept-requested : (q : Request) → storeNumber (s .kinds) (s .rights) (length people) (requested s people designs q) ≡ 0
-  kept-requested q = checked-zero (s .kinds) (s .rights) (length people) _ (good-requested s people (valid-scheme s valid) designs good q .check)
+-- ---- what lent words mean after a request, and after a batch
 
-  pub kept-batched : (qs : List Request) → storeNumber (s .kinds) (s .rights) (length people) (batched s people designs qs) ≡ 0
-  kept-batched qs = checked-zero (s .kinds) (s .rights) (length people) _ (good-batched qs .check)
+pub whole : (s : Scheme) (people : List Person) (designs : List Design) → Good s people designs → Whole designs
+whole s people designs g = record { few = g .check .few; celled = g .celled; spelt = g .check .spelt }
+
+pub good-fitting : (s : Scheme) (people : List Person) (designs : List Design) → ValidScheme s → Good s people designs → Each Fitting designs noDesign
+good-fitting s people designs valid g i l =
+    let f = g .check .fit i l in
+    record {
+      kind-fits = omega (arith, f .kind-below, valid .kinds-are);
+      code-fits = packed-fits (getD designs i noDesign .code) (g .check .spelt i l);
+      cells-fit = λ p. lt-of-lt-of-le (f .cell-below p) (pow-mono (valid .rights-are .1));
+    }
+
+-- the lent words with a good store written into them
+pub lent-kept : (s : Scheme) (people : List Person) (designs : List Design) (w : List ℕ) → ValidScheme s → Good s people designs → Lent w
+    → Lent (storeWords designs w)
+lent-kept s people designs w valid g lent = record {
+  fit = words-kept designs w (g .celled) (g .check .few) (good-fitting s people designs valid g) (lent .fit);
+  few = rw (store-count designs w) (g .check .few);
+  room = rw (store-words-length designs w (g .celled) (g .check .few) (lent .room)) (lent .room);
+}
+
+module _ (s : Scheme) (people : List Person) (valid : ValidScheme s) (w : List ℕ) (g : Good s people (storeOf w)) where
+  pub meaning-requested : (q : Request) → storeOf (storeWords (requested s people (storeOf w) q) w) ≡ requested s people (storeOf w) q
+  meaning-requested q = store-of-words (requested s people (storeOf w) q) w (whole s people _ (good-requested s people valid (storeOf w) g q))
+
+  pub meaning-batched : (qs : List Request) → storeOf (storeWords (batched s people (storeOf w) qs) w) ≡ batched s people (storeOf w) qs
+  meaning-batched qs = store-of-words (batched s people (storeOf w) qs) w (whole s people _ (good-batched s people valid (storeOf w) g qs))
+
+  -- one request more, on the words that the requests so far left
+  pub batch-step : (qs : List Request) (q : Request)
+      → storeWords (requested s people (storeOf (storeWords (batched s people (storeOf w) qs) w)) q) (storeWords (batched s people (storeOf w) qs) w)
+      ≡ storeWords (batched s people (storeOf w) (qs ++ q ∷ [])) w
+  batch-step qs q =
+      let between = batched s people (storeOf w) qs in
+      let h = good-batched s people valid (storeOf w) g qs in
+      rw (meaning-batched qs, batched-snoc s people (storeOf w) qs q)
+      (written-twice (requested s people between q) between w (good-requested s people valid between h q .celled) (h .celled)
+      (requested-grows s people between q))
+
+  pub number-step : (qs : List Request) (q : Request)
+      → batchNumbers s people (storeOf w) (qs ++ q ∷ [])
+      ≡ batchNumbers s people (storeOf w) qs ++ requestNumber s people (storeOf (storeWords (batched s people (storeOf w) qs) w)) q ∷ []
+  number-step qs q = rw (meaning-batched qs) (numbers-snoc s people (storeOf w) qs q)
+
+-- ---- what is handed over, where it is accepted
+
+pub roster-length : (count : ℕ) (words : List ℕ) → length (rosterOf count words) ≡ count
+unfolding rosterOf
+roster-length count words = length-map (groups 4 count words) personOf ∙ length-groups 4 count words
+
+module _ (h : Handed) (handed : handedNumber h ≡ 0) where
+  pub handed-scheme : ValidScheme (h .scheme)
+  unfolding handedNumber
+  handed-scheme = valid-scheme (h .scheme) ((simp accepted at handed) .0)
+
+  pub handed-roster : rosterNumber (h .scheme .types) (peopleIn h) ≡ 0
+  unfolding handedNumber
+  handed-roster = (simp accepted at handed) .1 .0
+
+  pub handed-people : length (peopleIn h) ≤ 32
+  unfolding rosterNumber outOfRange
+  handed-people = (simp accepted at handed-roster) .0 .0 .1
+
+  pub handed-store : Checked (h .scheme .kinds) (h .scheme .rights) (length (peopleIn h)) (designsIn h)
+  unfolding handedNumber
+  handed-store =
+      rw (roster-length (h .count) (h .roster))
+      (checked (h .scheme .kinds) (h .scheme .rights) (h .count) (designsIn h) ((simp accepted at handed) .1 .1))
+
+  module _ (rooms : hasRooms h ≡ true) (words : Words (h .store)) where
+    pub handed-lent : Lent (h .store)
+    unfolding hasRooms
+    handed-lent = record {
+      fit = words;
+      few = omega (arith, store-length (h .store), handed-store .few);
+      room = (simp passed at rooms) .1;
+    }
+
+    pub handed-good : Good (h .scheme) (peopleIn h) (designsIn h)
+    handed-good = record { check = handed-store; celled = store-celled (h .store) handed-lent }

@@ -7,6 +7,7 @@ pub mod Forms
 pub mod Checks
 pub mod Stores
 pub mod Requests
+pub mod Untouched
 pub mod Kept
 pub mod KindSets
 pub mod Listing

@@ -4,13 +4,13 @@ use Prim.Native.Nat.{ℕ, zero, suc, _+_, _-_, _*_, _≤_, _<_}
 use mathlib.Core.Path.{_≡_, refl, sym, ap, ap₂, _∙_}
 use mathlib.Core.Bool.{Bool, true, false, _&&_, _||_, not, and-assoc, or-assoc, and-true, and-false, or-false}
 use mathlib.Core.List.{List, [], _∷_, _++_, map, append-assoc, append-nil}
-use mathlib.Core.Logic.{⊎-elim, _↔_}
+use mathlib.Core.Logic.{_⊎_, ⊎-elim, _↔_}
 use native.Mathlib.Omega.{arith, by-contra}
 use native.Mathlib.Nat.{suc-add, zero-mul, suc-mul, add-comm, le-antisymm, zero-add, add-zero, add-suc, add-assoc, add-sub-of-le}
 use borrow.Author.Tests.{eqb-true, eq-eqb, lt-ltb}
 use lib.Dec.{eqb, ltb, leb·suc-suc}
 use lib.ListN.{length, getD, take, drop, set, length-append, length-drop, length-set, take-append-drop, List·getD-append}
-use lib.Seq.{take-suc, drop-cons, take-add, drop-drop, take-at, drop-at, take-append-seam, drop-append-seam, getD-take, getD-drop, set-append-seam, append-snoc, map-set-same, take-all, take-append-add, drop-append-add, take-nil, set-append-left, length-take-le, take-length, take-set-lt, drop-set-lt, paste}
+use lib.Seq.{take-suc, drop-cons, take-add, drop-drop, take-at, drop-at, take-append-seam, drop-append-seam, getD-take, getD-drop, set-append-seam, append-snoc, map-set-same, take-all, take-append-add, drop-append-add, take-nil, set-append-left, length-take-le, take-length, take-set-lt, drop-set-lt, getD-append-add, length-paste-head, paste}
 use Rattle.model.specs.Words.{_when_else_, all, any, those, firstPlace, joined, groups, writtenOver, numbersFrom, same, allDiffer}
 use Rattle.laws.proofs.Tests.{by-test, never-both, not-passed, same-test, and-iff, or-true, left-or, right-or, passed}
 
@@ -296,6 +296,22 @@ module _ {A : Type 0} where
       let k' : i < length (take at xs ++ take n ys) = omega (arith, length-append (take at xs) (take n ys)) in
       rw (take-set-lt at xs i a l, drop-set-lt (at + n) xs i a (omega arith), set-append-left (take at xs ++ take n ys) (drop (at + n) xs) i a k', set-append-left (take at xs) (take n ys) i a k)
       refl
+
+  -- what lies before and behind the part that is replaced
+  pub paste-outside : (xs : List A) (at : ℕ) (ys : List A) (n : ℕ) (d : A) → at ≤ length xs → n ≤ length ys → (i : ℕ) → (i < at) ⊎ (at + n ≤ i)
+      → getD (paste xs at ys n) i d ≡ getD xs i d
+  paste-outside xs at ys n d l m i =
+      let head = length-paste-head xs at ys n l m in
+      ⊎-elim
+      (λ before.
+      let k : i < length (take at xs) = omega (arith, length-take-le at xs l) in
+      List·getD-append (take at xs ++ take n ys) (drop (at + n) xs) d i (omega arith)
+      ∙ List·getD-append (take at xs) (take n ys) d i k ∙ getD-take at xs i d before)
+      (λ behind.
+      let e : at + n + (i - (at + n)) ≡ i = add-sub-of-le behind in
+      let there : getD (paste xs at ys n) (at + n + (i - (at + n))) d ≡ getD (drop (at + n) xs) (i - (at + n)) d =
+      rw head at (getD-append-add (take at xs ++ take n ys) (drop (at + n) xs) (i - (at + n)) d) in
+      rw e at (there ∙ getD-drop (at + n) xs (i - (at + n)) d))
 
 -- ---- lists cut into groups of one size, and joined again
 

@@ -6,10 +6,10 @@ use mathlib.Core.Bool.{true}
 use mathlib.Core.List.{List, [], _∷_, _++_, map, map-append, append-nil}
 use native.Mathlib.Nat.{add-zero}
 use mathlib.Core.Logic.{by-cases}
-use native.Mathlib.Decide.{decLt}
+use native.Mathlib.Decide.{decLt, ℕ-discrete}
 use native.Mathlib.Omega.{arith}
 use lib.ListN.{length, getD, take, drop, set, length-map, length-drop, length-set, length-append}
-use lib.Seq.{getD-take, getD-drop, drop-drop, drop-cons, length-take-le, lt-length-set, getD-set-same, set-set, paste}
+use lib.Seq.{getD-take, getD-drop, drop-drop, drop-cons, length-take-le, lt-length-set, getD-set-same, getD-set-other, set-set, paste}
 use Rattle.model.specs.declared.Code.{Code}
 use Rattle.model.specs.Words.{joined, groups, writtenOver}
 use Rattle.model.specs.Sizes.{storeRoom}
@@ -281,6 +281,19 @@ module _ (w : List ℕ) (lent : Lent w) where
     cell-written p v l =
         cell-set (storeOf w) w (store-celled w lent) place (omega (arith, store-length w)) p v l
         ∙ ap (λ (r : List ℕ). set r (cellPlace place p) v) (words-of-store w lent)
+
+    -- after the one store, the word of each cell is still that cell's
+    pub cell-set-at : (p v q : ℕ) → p < 32 → q < 32
+        → getD (set (getD (storeOf w) place noDesign .cells) p v) q 0 ≡ getD (set w (cellPlace place p) v) (cellPlace place q) 0
+    cell-set-at p v q l m =
+        let cells = getD (storeOf w) place noDesign .cells in
+        let size = cells-length w place inside (lent .room) (omega arith) in
+        by-cases (ℕ-discrete q p)
+        (λ here.
+        rw here (getD-set-same cells p v 0 (omega arith) ∙ sym (getD-set-same w (cellPlace place p) v 0 (omega arith))))
+        (λ other.
+        getD-set-other cells p q v 0 other ∙ cell-at w place inside q m
+        ∙ sym (getD-set-other w (cellPlace place p) (cellPlace place q) v 0 (λ e. other (omega arith))))
 
     pub cells-written : (p v q u : ℕ) → p < 32 → q < 32
         → storeWords (set (storeOf w) place (withCells (getD (storeOf w) place noDesign) (set (set (getD (storeOf w) place noDesign .cells) p v) q u))) w
