@@ -9,6 +9,7 @@ use native.Mathlib.Omega.{arith}
 use lib.ListN.{length, getD, set, length-map}
 use lib.Pow.{pow-mono}
 use Rattle.model.specs.Words.{groups}
+use Rattle.model.specs.Sizes.{storeRoom}
 use Rattle.model.specs.Schemes.{Scheme, commandAt, schemeNumber}
 use Rattle.model.specs.Rosters.{Person, personOf, rosterOf, outOfRange, rosterNumber}
 use Rattle.model.specs.Forms.{act}
@@ -19,7 +20,7 @@ use Rattle.laws.proofs.Tests.{passed, accepted}
 use Rattle.laws.proofs.Lists.{Each, each-snoc, length-groups}
 use Rattle.laws.proofs.Codes.{packed-fits}
 use Rattle.laws.proofs.Forms.{act-length, act-other, act-below, created-length, created-other, created-below}
-use Rattle.laws.proofs.Stores.{Words, Lent, store-length, Celled, Whole, store-celled, store-of-words, written-twice, store-words-length, store-count, Fitting, words-kept, cells-celled}
+use Rattle.laws.proofs.Stores.{Words, Lent, store-length, Celled, Whole, room-celled, store-of-words, written-twice, store-words-length, store-count, Fitting, words-kept, cells-celled}
 use Rattle.laws.proofs.Checks.{ValidScheme, valid-scheme, Checked, checked, checked-zero, checked-more, checked-anew}
 use Rattle.laws.proofs.Requests.{Creates, Acts, by-request, requested-grows, batched-snoc, numbers-snoc, by-requests}
 
@@ -167,14 +168,16 @@ module _ (h : Handed) (handed : handedNumber h ≡ 0) where
       rw (roster-length (h .count) (h .roster))
       (checked (h .scheme .kinds) (h .scheme .rights) (h .count) (designsIn h) ((simp accepted at handed) .1 .1))
 
-  module _ (rooms : hasRooms h ≡ true) (words : Words (h .store)) where
-    pub handed-lent : Lent (h .store)
+  handed-few : getD (h .store) 0 0 ≤ 64
+  handed-few = omega (arith, store-length (h .store), handed-store .few)
+
+  module _ (rooms : hasRooms h ≡ true) where
+    handed-room : storeRoom ≤ length (h .store)
     unfolding hasRooms
-    handed-lent = record {
-      fit = words;
-      few = omega (arith, store-length (h .store), handed-store .few);
-      room = (simp passed at rooms) .1;
-    }
+    handed-room = (simp passed at rooms) .1
 
     pub handed-good : Good (h .scheme) (peopleIn h) (designsIn h)
-    handed-good = record { check = handed-store; celled = store-celled (h .store) handed-lent }
+    handed-good = record { check = handed-store; celled = room-celled (h .store) handed-room handed-few }
+
+    pub handed-lent : Words (h .store) → Lent (h .store)
+    handed-lent words = record { fit = words; few = handed-few; room = handed-room }

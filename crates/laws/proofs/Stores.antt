@@ -96,8 +96,11 @@ pub record Whole (designs : List Design) : Type 0 where
   pub celled : Celled designs
   pub spelt : Each (λ d. spelled (d .code) ≡ true) designs noDesign
 
+pub room-celled : (w : List ℕ) → storeRoom ≤ length w → getD w 0 0 ≤ 64 → Celled (storeOf w)
+room-celled w room few i l = let m : i < getD w 0 0 = omega (arith, store-length w) in cells-length w i m room (omega arith)
+
 pub store-celled : (w : List ℕ) → Lent w → Celled (storeOf w)
-store-celled w lent i l = let m : i < getD w 0 0 = omega (arith, store-length w) in cells-length w i m (lent .room) (omega arith)
+store-celled w lent = room-celled w (lent .room) (lent .few)
 
 pub design-of-words : (d : Design) → spelled (d .code) ≡ true → designOf (wordsOfDesign d) ≡ d
 design-of-words d h = λ t. record { kind = d .kind; code = code-at-words (d .code) (d .cells) h t; cells = d .cells }

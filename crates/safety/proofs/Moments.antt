@@ -1,36 +1,33 @@
 -- At every moment of every history the invariant holds of the design that the verdict spoke of: the start has it, people who join keep it, and so does
 -- every request, by the command that it carries out. Assumes nothing.
-use Prim.Native.Nat.{ℕ, zero, suc, _≤_, _<_}
-use mathlib.Core.Bool.{Bool, true, false, not}
+use Prim.Native.Nat.{ℕ, _<_}
+use mathlib.Core.Bool.{Bool, true, false}
 use mathlib.Core.List.{List, [], _∷_, _++_}
 use mathlib.Core.Logic.{⊎-elim, by-cases}
 use mathlib.Core.Path.{_≡_, refl, sym, ap, subst, _∙_}
 use native.Mathlib.Decide.{ℕ-discrete}
 use native.Mathlib.Nat.{add-zero}
 use native.Mathlib.Omega.{arith}
-use lib.ListN.{length, getD, length-append, length-map}
+use lib.ListN.{length, length-append}
 use lib.Seq.{getD-append-seam}
-use borrow.Author.Tests.{eq-eqb, eqb-false, ne-eqb, ltb-true}
+use borrow.Author.Tests.{eq-eqb, eqb-false}
 use Rattle.model.specs.declared.Command.{Command}
-use Rattle.model.specs.Words.{_when_else_, _then_, any, groups, same}
-use Rattle.model.specs.Sizes.{storeRoom}
-use Rattle.model.specs.Codes.{codeNumber}
-use Rattle.model.specs.Schemes.{Scheme, isCreate, isGrant, isInternal, commandAt, schemeNumber}
-use Rattle.model.specs.Rosters.{Person, personOf, rosterOf, rosterNumber}
+use Rattle.model.specs.Words.{any, same}
+use Rattle.model.specs.Schemes.{Scheme, isCreate, isGrant, isInternal, commandAt}
+use Rattle.model.specs.Rosters.{Person}
 use Rattle.model.specs.Forms.{act}
-use Rattle.model.specs.Stores.{Design, noDesign, placeOf, exists, designAt, storeNumber, namedNumber}
+use Rattle.model.specs.Stores.{Design, noDesign, placeOf, designAt, namedNumber}
 use Rattle.model.specs.Requests.{Request, newDesign, requestNumber, requested}
 use Rattle.model.specs.Kinds.{isStep, rowOfCreate, rowOfDesign}
 use Rattle.model.specs.Listing.{Row}
 use Rattle.model.specs.Verdicts.{Start, rowsFrom, startOfCreate}
 use Rattle.model.specs.Outcomes.{Handed, peopleIn, designsIn, hasRooms, handedNumber, requestCallNumber, startIn}
-use Rattle.laws.proofs.Tests.{by-test, left-or, right-or, passed}
-use Rattle.laws.proofs.Lists.{length-groups, first-append-none, first-any, same-refl}
+use Rattle.laws.proofs.Tests.{left-or, right-or, accepted}
+use Rattle.laws.proofs.Lists.{first-append-none, first-any, same-refl}
 use Rattle.laws.proofs.Forms.{created-length}
-use Rattle.laws.proofs.Stores.{store-length, cells-length}
-use Rattle.laws.proofs.Checks.{ValidScheme, valid-scheme, ValidRoster, valid-roster, checked, grown}
+use Rattle.laws.proofs.Checks.{ValidScheme, ValidRoster, valid-roster, checked, grown}
 use Rattle.laws.proofs.Requests.{Acts, creates, requested-create}
-use Rattle.laws.proofs.Kept.{Good, good-requested}
+use Rattle.laws.proofs.Kept.{Good, good-requested, handed-scheme, handed-roster, handed-good}
 use Rattle.laws.proofs.Reach.{Among, among-at, at-among, listing-closed, listing-first, listing-some, listed-reached, reach-length}
 use Rattle.safety.specs.Histories.{Joined, Later, first, joins, asks}
 use Rattle.safety.specs.Premises.{Premises, Begins, withDesign, withCreate}
@@ -57,53 +54,18 @@ module _ (commands : List Command) (start : Start) (budget : ℕ) (premises : Pr
             ap (λ (r : Row). length r) (sym e) ∙ reach-length (listed-reached commands (start .kind) (start .row) budget i il) ∙ wide;
       }
 
--- ---- what the checks of a call tell
+-- ---- a request that the call answers 0
 
-then-zero : (m n : ℕ) → (m then n) ≡ 0 → (m ≡ 0) × (n ≡ 0)
-then-zero zero n h = (refl, h)
-then-zero (suc m) n h = absurd (omega (arith, rw (ne-eqb (suc m) 0 (λ e. omega arith)) at h))
+record Answered (h : Handed) (q : Request) : Type 0 where
+  rooms : hasRooms h ≡ true
+  handed : handedNumber h ≡ 0
+  number : requestNumber (h .scheme) (peopleIn h) (designsIn h) q ≡ 0
 
-pub record Handable (h : Handed) : Type 0 where
-  pub room : storeRoom ≤ length (h .store)
-  pub scheme-zero : schemeNumber (h .scheme) ≡ 0
-  pub roster-zero : rosterNumber (h .scheme .types) (peopleIn h) ≡ 0
-  pub store-zero : storeNumber (h .scheme .kinds) (h .scheme .rights) (length (peopleIn h)) (designsIn h) ≡ 0
-
-pub people-length : (h : Handed) → length (peopleIn h) ≡ h .count
-unfolding rosterOf
-people-length h = length-map (groups 4 (h .count) (h .roster)) personOf ∙ length-groups 4 (h .count) (h .roster)
-
-pub handable : (h : Handed) → hasRooms h ≡ true → handedNumber h ≡ 0 → Handable h
-unfolding hasRooms handedNumber
-handable h rooms zero-number =
-    let (scheme, rest) = then-zero (schemeNumber (h .scheme)) (rosterNumber (h .scheme .types) (peopleIn h) then storeNumber (h .scheme .kinds) (h .scheme .rights) (h .count) (designsIn h)) zero-number in
-    let (roster, store) = then-zero (rosterNumber (h .scheme .types) (peopleIn h)) (storeNumber (h .scheme .kinds) (h .scheme .rights) (h .count) (designsIn h)) rest in
-    record {
-      room = (simp passed at rooms) .1;
-      scheme-zero = scheme;
-      roster-zero = roster;
-      store-zero = rw (people-length h) store;
-    }
-
--- a request that the call answers 0
-call-zero : (h : Handed) (q : Request) → requestCallNumber h q ≡ 0 → Handable h × (requestNumber (h .scheme) (peopleIn h) (designsIn h) q ≡ 0)
+answered-zero : (h : Handed) (q : Request) → requestCallNumber h q ≡ 0 → Answered h q
 unfolding requestCallNumber
-call-zero h q answered =
-    by-test (hasRooms h)
-    (λ rooms.
-    let (checked-zero, request-zero) = then-zero (handedNumber h) (requestNumber (h .scheme) (peopleIn h) (designsIn h) q) (rw rooms at answered) in
-    (handable h rooms checked-zero, request-zero))
-    (λ none. absurd (omega (arith, rw none at answered)))
-
-handed-good : (h : Handed) → Handable h → Good (h .scheme) (peopleIn h) (designsIn h)
-handed-good h k =
-    let check = checked (h .scheme .kinds) (h .scheme .rights) (length (peopleIn h)) (designsIn h) (k .store-zero) in
-    record {
-      check = check;
-      celled = λ i l.
-          let counted : i < getD (h .store) 0 0 = omega (arith, store-length (h .store)) in
-          cells-length (h .store) i counted (k .room) (omega (arith, check .few));
-    }
+answered-zero h q zero-number =
+    let facts = simp accepted at zero-number in
+    record { rooms = facts .0; handed = facts .1 .0; number = facts .1 .1 }
 
 -- ---- a moment
 
@@ -128,23 +90,21 @@ begun-wide (withDesign h code rooms checked named) = refl
 begun-wide (withCreate h q answered create) = created-length (commandAt (h .scheme) (q .command)) (commandAt (h .scheme) (q .command) .source) 8
 
 begun-valid : {s : Scheme} {people : List Person} {designs : List Design} {code : List ℕ} {start : Start} → Begins s people designs code start → ValidScheme s
-begun-valid (withDesign h code rooms checked named) = valid-scheme (h .scheme) (handable h rooms checked .scheme-zero)
-begun-valid (withCreate h q answered create) = valid-scheme (h .scheme) (call-zero h q answered .0 .scheme-zero)
+begun-valid (withDesign h code rooms checked named) = handed-scheme h checked
+begun-valid (withCreate h q answered create) = handed-scheme h (answered-zero h q answered .handed)
 
 -- a design in the store
-design-now : (h : Handed) (code : List ℕ) (k : Handable h) → namedNumber (designsIn h) code ≡ 0 → (budget : ℕ)
+design-now : (h : Handed) (code : List ℕ) (rooms : hasRooms h ≡ true) (handed : handedNumber h ≡ 0) → namedNumber (designsIn h) code ≡ 0 → (budget : ℕ)
     → Premises (h .scheme .commands) (startIn h code) budget → Now (h .scheme) code (startIn h code) budget (peopleIn h) (designsIn h)
 unfolding namedNumber
-design-now h code k named budget premises =
+design-now h code rooms handed named budget premises =
     let s = h .scheme in
-    let roster = valid-roster (s .types) (peopleIn h) (k .roster-zero) in
-    let valid = valid-scheme s (k .scheme-zero) in
-    let there : placeOf code (designsIn h) < length (designsIn h) =
-    by-test (exists code (designsIn h)) (λ e. ltb-true (placeOf code (designsIn h)) (length (designsIn h)) e)
-    (λ e. absurd (omega (arith, rw e at (then-zero (codeNumber code) (12 when not (exists code (designsIn h)) else 0) named .1)))) in
+    let roster = valid-roster (s .types) (peopleIn h) (handed-roster h handed) in
+    let valid = handed-scheme h handed in
+    let there : placeOf code (designsIn h) < length (designsIn h) = (simp accepted at named) .1 .0 in
     record {
       roster = roster;
-      good = handed-good h k;
+      good = handed-good h handed rooms;
       present = there;
       kind-is = refl;
       inv = design-has (s .commands) (startIn h code .kind) (peopleIn h) (rowsFrom (s .commands) (startIn h code) budget) (designAt code (designsIn h) .cells)
@@ -152,15 +112,15 @@ design-now h code k named budget premises =
     }
 
 -- a create that is answered 0
-create-now : (h : Handed) (q : Request) (k : Handable h) (isC : isCreate (commandAt (h .scheme) (q .command)) ≡ true)
+create-now : (h : Handed) (q : Request) (rooms : hasRooms h ≡ true) (handed : handedNumber h ≡ 0) (isC : isCreate (commandAt (h .scheme) (q .command)) ≡ true)
     → requestNumber (h .scheme) (peopleIn h) (designsIn h) q ≡ 0 → (budget : ℕ)
     → Now (h .scheme) (q .code) (startOfCreate (commandAt (h .scheme) (q .command))) budget (peopleIn h) (requested (h .scheme) (peopleIn h) (designsIn h) q)
-create-now h q k isC answered budget =
+create-now h q rooms handed isC answered budget =
     let s = h .scheme in
     let c = commandAt s (q .command) in
     let new = newDesign c q in
-    let roster = valid-roster (s .types) (peopleIn h) (k .roster-zero) in
-    let valid = valid-scheme s (k .scheme-zero) in
+    let roster = valid-roster (s .types) (peopleIn h) (handed-roster h handed) in
+    let valid = handed-scheme h handed in
     let made = creates s (peopleIn h) (designsIn h) q isC answered in
     let rows = rowsFrom (s .commands) (startOfCreate c) budget in
     let after : requested s (peopleIn h) (designsIn h) q ≡ designsIn h ++ (new ∷ []) = requested-create s (peopleIn h) (designsIn h) q made in
@@ -173,7 +133,7 @@ create-now h q k isC answered budget =
     let small : c .source < 8 = omega (arith, valid .commands-valid (q .command) (made .admitted .named) .source-below) in
     record {
       roster = roster;
-      good = good-requested s (peopleIn h) valid (designsIn h) (handed-good h k) q;
+      good = good-requested s (peopleIn h) valid (designsIn h) (handed-good h handed rooms) q;
       present = rw after (omega (arith, last, length-append (designsIn h) (new ∷ [])));
       kind-is = rw (after, there);
       inv = rw (after, there)
@@ -183,10 +143,10 @@ create-now h q k isC answered budget =
 
 begun-now : {s : Scheme} {people : List Person} {designs : List Design} {code : List ℕ} {start : Start} → Begins s people designs code start
     → (budget : ℕ) → Premises (s .commands) start budget → Now s code start budget people designs
-begun-now (withDesign h code rooms checked named) budget premises = design-now h code (handable h rooms checked) named budget premises
+begun-now (withDesign h code rooms checked named) budget premises = design-now h code rooms checked named budget premises
 begun-now (withCreate h q answered create) budget premises =
-    let (k, zero-number) = call-zero h q answered in
-    create-now h q k create zero-number budget
+    let a = answered-zero h q answered in
+    create-now h q (a .rooms) (a .handed) create (a .number) budget
 
 -- ---- from one moment to the next
 
