@@ -7,3 +7,4 @@ pub mod Examples
 pub mod Follow
 pub mod Moments
 pub mod Promised
+pub mod Reached

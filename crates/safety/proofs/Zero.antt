@@ -106,6 +106,22 @@ module _ (commands : List Command) (start : Start) (q : Question) where
       never : {n : ℕ} → suc n ≡ 0 → ⊥
       never e = omega arith
 
+  -- held is 1 only with 0, and says that a listed row has the right at the type
+  pub held-any : verdictFrom commands start q .held ≡ 1 → any (holds q) rows ≡ true
+  unfolding verdictFrom duplicateFound reported
+  held-any h =
+      by-test (ltb (firstNotNormal commands (start .kind)) (length commands)) (λ a. absurd (never (rw a at h)))
+      (λ a.
+      by-test (start .overlap) (λ b. absurd (never (rw (a, b) at h)))
+      (λ b.
+      by-test (ltb (q .budget) (length rows)) (λ c. absurd (never (rw (a, b, c) at h)))
+      (λ c.
+      by-test (any (hasDuplicate commands (start .kind)) rows) (λ d. absurd (never (rw (a, b, c, d) at h)))
+      (λ d. by-test (any (holds q) rows) (λ e. e) (λ e. absurd (never (rw (a, b, c, d, e) at h)))))))
+    where
+      never : _≡_ {A = ℕ} 0 1 → ⊥
+      never e = omega arith
+
   pub zero-iff : (verdictFrom commands start q .number ≡ 0) ↔ Premises commands start (q .budget)
   zero-iff = (zero-premises, λ p. ap (λ (v : Verdict). v .number) (premises-zero p) ∙ reported-zero q rows)
 

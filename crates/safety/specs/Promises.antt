@@ -1,18 +1,22 @@
 -- Demand 3, a statement for each of its sentences, over the definitions that the contracts cite.
 -- Assumes nothing.
 use Prim.Native.Nat.{ℕ, _<_}
-use mathlib.Core.Bool.{false}
-use mathlib.Core.List.{List, []}
+use mathlib.Core.Bool.{true, false}
+use mathlib.Core.List.{List, [], _∷_}
 use mathlib.Core.Logic.{_↔_}
 use mathlib.Core.Path.{_≡_}
+use lib.Dec.{eqb}
 use lib.ListN.{length, getD}
 use Rattle.model.specs.declared.Verdict.{Verdict}
-use Rattle.model.specs.Sizes.{rowWords}
+use Rattle.model.specs.Words.{all}
+use Rattle.model.specs.Sizes.{mostPeople, mostDesigns, rowWords}
 use Rattle.model.specs.Rights.{has, common}
+use Rattle.model.specs.Codes.{spelled}
 use Rattle.model.specs.Schemes.{Scheme, commandAt}
-use Rattle.model.specs.Rosters.{Person, typeAt}
+use Rattle.model.specs.Rosters.{Person, typeAt, rosterNumber}
 use Rattle.model.specs.Forms.{cellAt}
-use Rattle.model.specs.Stores.{Design, designAt}
+use Rattle.model.specs.Stores.{Design, noDesign, exists, designAt, storeNumber}
+use Rattle.model.specs.Requests.{Request, batchNumbers, batched}
 use Rattle.model.specs.Kinds.{propagation, overlaps, ofType}
 use Rattle.model.specs.Verdicts.{Question, Start, startOfCreate, rowsFrom, verdictFrom}
 use Rattle.model.specs.Outcomes.{Handed, createCallNumber, designCallNumber, startIn, VerdictOfCreateOutcome, VerdictOfDesignOutcome}
@@ -66,3 +70,44 @@ Apart =
     (s : Scheme) (people₀ : List Person) (designs₀ : List Design) (code : List ℕ) (start : Start) → Begins s people₀ designs₀ code start
     → (budget : ℕ) → Premises (s .commands) start budget
     → Always s people₀ designs₀ (λ people designs. overlaps (s .commands) (start .kind) people (cellsOf code designs) ≡ false)
+
+-- ---- **reached**
+
+-- an admitted roster whose people are one of each type, person t of type t
+pub record OneOfEach (types : ℕ) (people : List Person) : Type 0 where
+  pub admitted : rosterNumber types people ≡ 0
+  pub as-many : length people ≡ types
+  pub each : (t : ℕ) → t < types → typeAt people t ≡ t
+
+-- an admitted store: it passes check 21, and each design has its 32 cells
+pub record Admits (s : Scheme) (people : List Person) (designs : List Design) : Type 0 where
+  pub passes : storeNumber (s .kinds) (s .rights) (length people) designs ≡ 0
+  pub cells : (i : ℕ) → i < length designs → length (getD designs i noDesign .cells) ≡ mostPeople
+
+-- requests, each answered 0, after which the person of the type holds the right on the design
+pub record Reached (s : Scheme) (people : List Person) (designs : List Design) (code : List ℕ) (q : Question) (requests : List Request) : Type 0 where
+  pub answered : all (λ n. eqb n 0) (batchNumbers s people designs requests) ≡ true
+  pub held : has (cellAt (cellsOf code (batched s people designs requests)) (q .type)) (q .right) ≡ true
+
+-- the create by the person of its type
+abbrev pub createBy : Scheme → ℕ → List ℕ → Request
+createBy s k code = record { command = k; source = commandAt s k .source; destination = commandAt s k .source; code = code }
+
+-- held 1, for a create start: from every such roster and every such store that lacks the code and has a place left, by a history that begins with that create
+abbrev pub ReachedOfCreate : Type 0
+ReachedOfCreate =
+    (s : Scheme) (k : ℕ) (q : Question) (table : List ℕ) → createCallNumber s k q table ≡ 0
+    → verdictFrom (s .commands) (startOfCreate (commandAt s k)) q .held ≡ 1
+    → (people : List Person) → OneOfEach (s .types) people → (designs : List Design) → Admits s people designs
+    → (code : List ℕ) → spelled code ≡ true → exists code designs ≡ false → length designs < mostDesigns
+    → (requests : List Request) × Reached s people designs code q (createBy s k code ∷ requests)
+
+-- held 1, for a design start: from every such roster and every such store that has the code and the kind, with the start's cells and no others
+abbrev pub ReachedOfDesign : Type 0
+ReachedOfDesign =
+    (h : Handed) (code : List ℕ) (q : Question) (table : List ℕ) → designCallNumber h code q table ≡ 0
+    → verdictFrom (h .scheme .commands) (startIn h code) q .held ≡ 1
+    → (people : List Person) → OneOfEach (h .scheme .types) people → (designs : List Design) → Admits (h .scheme) people designs
+    → exists code designs ≡ true → designAt code designs .kind ≡ startIn h code .kind
+    → ((p : ℕ) → cellAt (cellsOf code designs) p ≡ cellAt (startIn h code .row) p)
+    → (requests : List Request) × Reached (h .scheme) people designs code q requests
