@@ -8,3 +8,4 @@ pub mod Follow
 pub mod Moments
 pub mod Promised
 pub mod Reached
+pub mod Witness

@@ -12,7 +12,7 @@ use Rattle.model.specs.Words.{all}
 use Rattle.model.specs.Sizes.{mostPeople, mostDesigns, rowWords}
 use Rattle.model.specs.Rights.{has, common}
 use Rattle.model.specs.Codes.{spelled}
-use Rattle.model.specs.Schemes.{Scheme, commandAt}
+use Rattle.model.specs.Schemes.{Scheme, commandAt, schemeNumber}
 use Rattle.model.specs.Rosters.{Person, typeAt, rosterNumber}
 use Rattle.model.specs.Forms.{cellAt}
 use Rattle.model.specs.Stores.{Design, noDesign, exists, designAt, storeNumber}
@@ -111,3 +111,19 @@ ReachedOfDesign =
     → exists code designs ≡ true → designAt code designs .kind ≡ startIn h code .kind
     → ((p : ℕ) → cellAt (cellsOf code designs) p ≡ cellAt (startIn h code .row) p)
     → (requests : List Request) × Reached (h .scheme) people designs code q requests
+
+-- such rosters exist, and such stores: the promises above speak of something
+abbrev pub SomeRoster : Type 0
+SomeRoster = (s : Scheme) → schemeNumber s ≡ 0 → (people : List Person) × OneOfEach (s .types) people
+
+abbrev pub SomeStoreWithout : Type 0
+SomeStoreWithout =
+    (s : Scheme) (people : List Person) (code : List ℕ)
+    → (designs : List Design) × Admits s people designs × (exists code designs ≡ false) × (length designs < mostDesigns)
+
+abbrev pub SomeStoreWith : Type 0
+SomeStoreWith =
+    (h : Handed) (code : List ℕ) (q : Question) (table : List ℕ) → designCallNumber h code q table ≡ 0
+    → (people : List Person) → OneOfEach (h .scheme .types) people
+    → (designs : List Design) × Admits (h .scheme) people designs × (exists code designs ≡ true)
+    × (designAt code designs .kind ≡ startIn h code .kind) × ((p : ℕ) → cellAt (cellsOf code designs) p ≡ cellAt (startIn h code .row) p)
