@@ -11,4 +11,5 @@ pub mod Untouched
 pub mod Kept
 pub mod KindSets
 pub mod Listing
+pub mod Budgets
 pub mod Reach

@@ -141,16 +141,16 @@ module _ (commands : List Command) (kind : ℕ) where
         (λ i b. absurd (omega arith))
 
     -- the start is state 0
-    pub listing-grows : (n : ℕ) → Grown (start ∷ []) (listing commands kind start n)
-    listing-grows =
+    pub listing-begins : (n : ℕ) → Grown (start ∷ []) (listing commands kind start n)
+    listing-begins =
         listing-keeps (λ at rows. Grown (start ∷ []) rows) (λ at rows l g. grown-trans g (expanded-grows kind commands (getD rows at []) rows))
         (λ at at′ rows l g. g) (grown-refl (start ∷ []))
 
     pub listing-first : (n : ℕ) → getD (listing commands kind start n) 0 [] ≡ start
-    listing-first n = grown-keeps (listing-grows n) 0 (omega arith)
+    listing-first n = grown-keeps (listing-begins n) 0 (omega arith)
 
     pub listing-some : (n : ℕ) → 0 < length (listing commands kind start n)
-    listing-some n = omega (arith, grown-longer (listing-grows n))
+    listing-some n = omega (arith, grown-longer (listing-begins n))
 
     -- every listed state is reached
     pub listed-reached : (n i : ℕ) → i < length (listing commands kind start n) → Reach commands kind start (getD (listing commands kind start n) i [])

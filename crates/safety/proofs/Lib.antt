@@ -9,3 +9,4 @@ pub mod Moments
 pub mod Promised
 pub mod Reached
 pub mod Witness
+pub mod Budgeted

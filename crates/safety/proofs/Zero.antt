@@ -66,7 +66,7 @@ module _ (commands : List Command) (kind : ℕ) where
       bad row c = fires kind c row && isDuplicate commands kind c row
 
 -- what is answered when nothing is refused has the number 0
-reported-zero : (q : Question) (rows : List Row) → reported q rows .number ≡ 0
+pub reported-zero : (q : Question) (rows : List Row) → reported q rows .number ≡ 0
 unfolding reported
 reported-zero q rows = by-test (any (holds q) rows) (λ t. rw t) (λ t. rw t)
 

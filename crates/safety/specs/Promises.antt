@@ -1,12 +1,12 @@
 -- Demand 3, a statement for each of its sentences, over the definitions that the contracts cite.
 -- Assumes nothing.
-use Prim.Native.Nat.{ℕ, _<_}
+use Prim.Native.Nat.{ℕ, _*_, _≤_, _<_}
 use mathlib.Core.Bool.{true, false}
 use mathlib.Core.List.{List, [], _∷_}
 use mathlib.Core.Logic.{_↔_}
 use mathlib.Core.Path.{_≡_}
 use lib.Dec.{eqb}
-use lib.ListN.{length, getD}
+use lib.ListN.{length, getD, take}
 use Rattle.model.specs.declared.Verdict.{Verdict}
 use Rattle.model.specs.Words.{all}
 use Rattle.model.specs.Sizes.{mostPeople, mostDesigns, rowWords}
@@ -127,3 +127,31 @@ SomeStoreWith =
     → (people : List Person) → OneOfEach (h .scheme .types) people
     → (designs : List Design) × Admits (h .scheme) people designs × (exists code designs ≡ true)
     × (designAt code designs .kind ≡ startIn h code .kind) × ((p : ℕ) → cellAt (cellsOf code designs) p ≡ cellAt (startIn h code .row) p)
+
+-- ---- **budgets**
+
+abbrev pub withBudget : Question → ℕ → Question
+withBudget q budget = record { type = q .type; right = q .right; budget = budget }
+
+-- two answers and tables to one question, at a smaller and a larger budget: unless the smaller one's number is 18 they are equal, field by field and word
+-- by word; where it is 18, its rows are the first rows of the larger's
+pub record SameUnlessCut (smaller : ℕ) (a b : Verdict) (tableA tableB : List ℕ) : Type 0 where
+  pub same-answer : (a .number ≡ 18 → ⊥) → a ≡ b
+  pub same-table : (a .number ≡ 18 → ⊥) → tableA ≡ tableB
+  pub first-rows : a .number ≡ 18 → take (smaller * rowWords) tableA ≡ take (smaller * rowWords) tableB
+
+abbrev pub BudgetsOfCreate : Type 0
+BudgetsOfCreate =
+    (s : Scheme) (command : ℕ) (q : Question) (table : List ℕ) (m n : ℕ) → m ≤ n
+    → createCallNumber s command (withBudget q m) table ≡ 0 → createCallNumber s command (withBudget q n) table ≡ 0
+    → (a b : Verdict) (tableA tableB : List ℕ)
+    → VerdictOfCreateOutcome s command (withBudget q m) table a tableA → VerdictOfCreateOutcome s command (withBudget q n) table b tableB
+    → SameUnlessCut m a b tableA tableB
+
+abbrev pub BudgetsOfDesign : Type 0
+BudgetsOfDesign =
+    (h : Handed) (code : List ℕ) (q : Question) (table : List ℕ) (m n : ℕ) → m ≤ n
+    → designCallNumber h code (withBudget q m) table ≡ 0 → designCallNumber h code (withBudget q n) table ≡ 0
+    → (a b : Verdict) (tableA tableB : List ℕ)
+    → VerdictOfDesignOutcome h code (withBudget q m) table a tableA → VerdictOfDesignOutcome h code (withBudget q n) table b tableB
+    → SameUnlessCut m a b tableA tableB
