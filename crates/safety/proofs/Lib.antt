@@ -10,3 +10,4 @@ pub mod Promised
 pub mod Reached
 pub mod Witness
 pub mod Budgeted
+pub mod Stored

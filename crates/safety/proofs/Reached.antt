@@ -1,30 +1,30 @@
 -- **reached**: a stand-in step is a request of person t of type t, so the run of steps to a listed state is a run of requests, each answered 0.
 -- Assumes nothing.
 use Prim.Native.Nat.{ℕ, _<_}
-use mathlib.Core.Bool.{Bool, true, false, not, _&&_, _||_}
+use mathlib.Core.Bool.{true, false}
 use mathlib.Core.List.{List, [], _∷_, _++_}
 use mathlib.Core.Logic.{by-cases, ⊎-elim}
-use mathlib.Core.Path.{_≡_, refl, sym, ap, ap₂, subst, _∙_}
+use mathlib.Core.Path.{_≡_, refl, sym, ap, _∙_}
 use native.Mathlib.Decide.{ℕ-discrete}
 use native.Mathlib.Omega.{arith}
-use lib.Dec.{eqb, ltb}
+use lib.Dec.{eqb}
 use lib.ListN.{length, getD, set}
 use lib.Seq.{getD-set-same, getD-set-other, lt-length-set}
 use borrow.Author.Tests.{eq-eqb, ne-eqb, eqb-true, lt-ltb, ltb-true}
 use Rattle.model.specs.declared.Command.{Command}
 use Rattle.model.specs.Words.{all}
 use Rattle.model.specs.Sizes.{mostDesigns}
-use Rattle.model.specs.Rights.{has, within, without, withThose}
+use Rattle.model.specs.Rights.{has, without, withThose}
 use Rattle.model.specs.Codes.{spelled}
-use Rattle.model.specs.Schemes.{Scheme, isCreate, isGrant, isInternal, commandIn, commandAt}
+use Rattle.model.specs.Schemes.{Scheme, isCreate, isGrant, isInternal, commandAt}
 use Rattle.model.specs.Rosters.{Person, typeAt}
 use Rattle.model.specs.Forms.{cellAt, held, lose, gain, act, created}
-use Rattle.model.specs.Stores.{Design, noDesign, placeOf, exists, designAt}
+use Rattle.model.specs.Stores.{Design, placeOf, exists, designAt}
 use Rattle.model.specs.Requests.{Request, twoPeople, newDesign, actedOn, requestNumber, requested, batchNumbers, batched}
 use Rattle.model.specs.Kinds.{isStep, rowOfCreate, rowOfDesign}
 use Rattle.model.specs.Listing.{Row, fires, moved, Reach, here, next}
 use Rattle.model.specs.Verdicts.{Question, Start, startOfCreate, rowsFrom, holds, verdictFrom, createAskedNumber}
-use Rattle.model.specs.Outcomes.{Handed, createCallNumber, designCallNumber, startIn}
+use Rattle.model.specs.Outcomes.{createCallNumber, designCallNumber, startIn}
 use Rattle.laws.proofs.Tests.{by-test, or-true, passed, accepted}
 use Rattle.laws.proofs.Lists.{all-snoc, any-at}
 use Rattle.laws.proofs.Forms.{act-length, created-here, created-other, created-length}

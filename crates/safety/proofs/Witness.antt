@@ -1,6 +1,6 @@
 -- Rosters with one person of each type exist, and stores with and without a design: the promises of what is reached are not empty. Assumes nothing.
 use Prim.Native.Nat.{ℕ, zero, suc, _+_, _-_, _≤_, _<_, _^_}
-use mathlib.Core.Bool.{true, false}
+use mathlib.Core.Bool.{true}
 use mathlib.Core.List.{List, [], _∷_, _++_, map}
 use mathlib.Core.Logic.{by-cases}
 use mathlib.Core.Path.{_≡_, refl, sym, ap, _∙_}
@@ -19,7 +19,7 @@ use Rattle.model.specs.Forms.{cellAt}
 use Rattle.model.specs.Stores.{Design, noDesign, placeOf, designAt, namedNumber}
 use Rattle.model.specs.Kinds.{ofType, rowOfDesign}
 use Rattle.model.specs.Verdicts.{designAskedNumber}
-use Rattle.model.specs.Outcomes.{Handed, peopleIn, designsIn, designCallNumber, startIn}
+use Rattle.model.specs.Outcomes.{peopleIn, designsIn, designCallNumber}
 use Rattle.model.proofs.Computes.{computes}
 use Rattle.laws.proofs.Tests.{accepted}
 use Rattle.laws.proofs.Bits.{one-bit, together-lt}
@@ -28,7 +28,7 @@ use Rattle.laws.proofs.KindSets.{one-of-type, row-at, row-past}
 use Rattle.laws.proofs.Lists.{map-at, same-refl, length-numbers, numbers-at}
 use Rattle.laws.proofs.Checks.{valid-scheme, valid-roster, Fits, checked-zero}
 use Rattle.laws.proofs.Kept.{handed-roster, handed-good}
-use Rattle.safety.specs.Promises.{OneOfEach, Admits, SomeRoster, SomeStoreWithout, SomeStoreWith}
+use Rattle.safety.specs.Promises.{Admits, SomeRoster, SomeStoreWithout, SomeStoreWith}
 
 -- ---- person t of type t, with a letter for a code
 

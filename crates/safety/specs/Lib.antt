@@ -2,3 +2,4 @@ pub mod Histories
 pub mod Premises
 pub mod Promises
 pub mod Needed
+pub mod Stores
