@@ -1,5 +1,4 @@
 -- The laws behind the proofs of this crate.
-pub mod Table
 pub mod Lists
 pub mod Spelling
 pub mod Padding

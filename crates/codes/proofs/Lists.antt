@@ -9,6 +9,7 @@ use native.Mathlib.Numerals.{add-one, towards-suc}
 use lib.ListN.{length, getD, take, drop, replicate, drop-of-length-le}
 use lib.Seq.{drop-cons}
 use Rattle.model.specs.Words.{all}
+use Rattle.laws.proofs.Forms.{getD-copies}
 
 -- a test over what is left of a list, from its place i on
 module _ {A : Type 0} (test : A → Bool) (l : List A) (i : ℕ) (d : A) where
@@ -35,12 +36,7 @@ module _ {A : Type 0} where
       ))
 
   -- what pads a list is what is read past its end anyhow
-  getD-replicate-same : (n i : ℕ) (a : A) → getD (replicate n a) i a ≡ a
-  getD-replicate-same zero i a = refl
-  getD-replicate-same (suc n) zero a = refl
-  getD-replicate-same (suc n) (suc i) a = getD-replicate-same n i a
-
   pub getD-padding : (l : List A) (n i : ℕ) (a : A) → getD (l ++ replicate n a) i a ≡ getD l i a
-  getD-padding [] n i a = getD-replicate-same n i a
+  getD-padding [] n i a = getD-copies n i a
   getD-padding (x ∷ l) n zero a = refl
   getD-padding (x ∷ l) n (suc i) a = getD-padding l n i a

@@ -20,7 +20,7 @@ use Rattle.model.specs.Forms.{cellAt}
 use Rattle.model.specs.Kinds.{isStep, stepsOf, propagation, deletable, both, clash, overlaps, ofType, rowOfDesign}
 use Rattle.laws.proofs.Tests.{by-test, never-both, not-passed, passed}
 use Rattle.laws.proofs.Bits.{max-one, bit-below-two, bit-of-zero, bit-together, bit-common, bits-meet, meets-true}
-use Rattle.laws.proofs.Lists.{map-at, none-at, at-none, length-numbers, numbers-at}
+use Rattle.laws.proofs.Lists.{table-at, none-at, at-none, length-numbers, numbers-at}
 
 -- ---- all rights of those elements that pass a test, put together
 
@@ -85,8 +85,7 @@ module _ (people : List Person) (cells : List ℕ) (t k : ℕ) where
 -- the row of a design holds at each type what its people hold together
 pub row-at : (people : List Person) (cells : List ℕ) (t : ℕ) → t < rowWords → cellAt (rowOfDesign people cells) t ≡ ofType people cells t
 unfolding rowOfDesign
-row-at people cells t l =
-    map-at (ofType people cells) (numbersFrom 0 rowWords) 0 0 t l ∙ ap (ofType people cells) (numbers-at 0 rowWords 0 t l ∙ zero-add t)
+row-at people cells t l = table-at (ofType people cells) rowWords 0 t l
 
 -- past the last type a row is empty
 pub row-past : (people : List Person) (cells : List ℕ) (t : ℕ) → rowWords ≤ t → cellAt (rowOfDesign people cells) t ≡ 0

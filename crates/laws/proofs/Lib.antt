@@ -13,3 +13,4 @@ pub mod KindSets
 pub mod Listing
 pub mod Budgets
 pub mod Reach
+pub mod Verdicts

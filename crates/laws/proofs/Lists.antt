@@ -482,3 +482,8 @@ numbers-at first (suc n) d (suc i) l = numbers-at (suc first) n d i (omega arith
 pub numbers-last : (first n : ℕ) → numbersFrom first (suc n) ≡ numbersFrom first n ++ ((first + n) ∷ [])
 numbers-last first zero = rw add-zero refl
 numbers-last first (suc n) = rw (add-suc first n, ← suc-add first n) (ap (λ (r : List ℕ). first ∷ r) (numbers-last (suc first) n))
+
+-- what stands in a table that is made by a rule
+pub table-at : {B : Type 0} (rule : ℕ → B) (n : ℕ) (d : B) (k : ℕ) → k < n → getD (map rule (numbersFrom 0 n)) k d ≡ rule k
+table-at rule n d k l =
+    map-at rule (numbersFrom 0 n) 0 d k (omega (arith, length-numbers 0 n)) ∙ ap rule (numbers-at 0 n 0 k l ∙ zero-add k)

@@ -1,6 +1,6 @@
 -- **budgets**: a listing that fits stays as it is under a larger budget, and one that is cut off has its first rows. Assumes nothing.
 use Prim.Native.Nat.{ℕ, _*_, _-_, _≤_, _<_}
-use mathlib.Core.Bool.{Bool, true, false}
+use mathlib.Core.Bool.{true, false}
 use mathlib.Core.List.{List, [], _++_, append-nil, append-assoc}
 use mathlib.Core.Path.{_≡_, refl, sym, ap, _∙_}
 use native.Mathlib.Nat.{add-sub-of-le}
@@ -11,19 +11,19 @@ use lib.Seq.{take-all, take-add, take-append-le, take-at, length-take-le, getD-t
 use borrow.Author.Tests.{ltb-true, ltb-false, le-ltb}
 use Rattle.model.specs.declared.Command.{Command}
 use Rattle.model.specs.declared.Verdict.{Verdict}
-use Rattle.model.specs.Words.{_when_else_, any, joined, writtenOver}
+use Rattle.model.specs.Words.{joined, writtenOver}
 use Rattle.model.specs.Sizes.{rowWords}
 use Rattle.model.specs.Schemes.{commandAt}
 use Rattle.model.specs.Kinds.{firstNotNormal, rowOfCreate, rowOfDesign}
-use Rattle.model.specs.Listing.{Row, hasDuplicate}
+use Rattle.model.specs.Listing.{Row}
 use Rattle.model.specs.Verdicts.{Question, Start, startOfCreate, rowsFrom, holds, reported, duplicateFound, verdictFrom, leavesRows, tableAfter}
 use Rattle.model.specs.Outcomes.{onDone, verdictAnswer, startIn}
 use Rattle.laws.proofs.Tests.{by-test, never-both}
 use Rattle.laws.proofs.Forms.{created-length}
+use Rattle.laws.proofs.Verdicts.{by-verdict, reported-zero}
 use Rattle.laws.proofs.Lists.{length-joined, joined-append}
 use Rattle.laws.proofs.Listing.{Grown}
 use Rattle.laws.proofs.Budgets.{listing-whole, listing-grows, listing-sized}
-use Rattle.safety.proofs.Zero.{reported-zero}
 use Rattle.safety.specs.Promises.{withBudget, SameUnlessCut, BudgetsOfCreate, BudgetsOfDesign}
 
 -- what is written first is found first
@@ -42,7 +42,12 @@ module _ (commands : List Command) (start : Start) (q : Question) (table : List 
   fits-both : length rowsM ≤ m → rowsN ≡ rowsM
   fits-both h = listing-whole commands (start .kind) (start .row) m n h l
 
-  -- reported and duplicateFound speak of the rows alone
+  fits-more : ltb m (length rowsM) ≡ false → ltb n (length rowsN) ≡ false
+  fits-more c =
+      let fits : length rowsM ≤ m = ltb-false m (length rowsM) c in
+      rw (fits-both fits) (le-ltb n (length rowsM) (omega arith))
+
+  -- what is reported speaks of the rows alone
   same-reported : (rows : List Row) → reported (withBudget q m) rows ≡ reported (withBudget q n) rows
   unfolding reported holds
   same-reported rows = refl
@@ -50,33 +55,20 @@ module _ (commands : List Command) (start : Start) (q : Question) (table : List 
   same-verdict : (verdictFrom commands start (withBudget q m) .number ≡ 18 → ⊥)
       → verdictFrom commands start (withBudget q m) ≡ verdictFrom commands start (withBudget q n)
   unfolding verdictFrom
-  same-verdict uncut =
-      by-test (ltb (firstNotNormal commands (start .kind)) (length commands)) (λ a. rw a)
-      (λ a.
-      by-test (start .overlap) (λ b. rw (a, b))
-      (λ b.
-      by-test (ltb m (length rowsM)) (λ c. absurd (uncut (rw (a, b, c))))
-      (λ c.
-      let fits : length rowsM ≤ m = ltb-false m (length rowsM) c in
-      let same : rowsN ≡ rowsM = fits-both fits in
-      let d : ltb n (length rowsN) ≡ false = rw same (le-ltb n (length rowsM) (omega arith)) in
-      rw (a, b, c, d, same) (same-reported-end (any (hasDuplicate commands (start .kind)) rowsM)))))
-    where
-      same-reported-end : (t : Bool) → (duplicateFound commands (start .kind) rowsM when t else reported (withBudget q m) rowsM)
-          ≡ (duplicateFound commands (start .kind) rowsM when t else reported (withBudget q n) rowsM)
-      same-reported-end true = refl
-      same-reported-end false = same-reported rowsM
+  same-verdict =
+      by-verdict commands start (withBudget q m) (λ v. (v .number ≡ 18 → ⊥) → v ≡ verdictFrom commands start (withBudget q n)) (λ a uncut. rw a)
+      (λ a b uncut. rw (a, b)) (λ a b c uncut. absurd (uncut refl))
+      (λ a b c d uncut. let same = fits-both (ltb-false m (length rowsM) c) in rw (a, b, fits-more c, same, d))
+      (λ a b c d uncut. let same = fits-both (ltb-false m (length rowsM) c) in rw (a, b, fits-more c, same, d) (same-reported rowsM))
 
   -- an answer that is not cut off and leaves rows has gone through all of them
   uncut-fits : (verdictFrom commands start (withBudget q m) .number ≡ 18 → ⊥) → leavesRows (verdictFrom commands start (withBudget q m) .number) ≡ true
       → length rowsM ≤ m
-  unfolding verdictFrom leavesRows
-  uncut-fits uncut leaves =
-      by-test (ltb (firstNotNormal commands (start .kind)) (length commands)) (λ a. absurd (never-both (rw a at leaves) refl))
-      (λ a.
-      by-test (start .overlap) (λ b. absurd (never-both (rw (a, b) at leaves) refl))
-      (λ b.
-      by-test (ltb m (length rowsM)) (λ c. absurd (uncut (rw (a, b, c)))) (λ c. ltb-false m (length rowsM) c)))
+  unfolding leavesRows
+  uncut-fits =
+      by-verdict commands start (withBudget q m) (λ v. (v .number ≡ 18 → ⊥) → leavesRows (v .number) ≡ true → length rowsM ≤ m)
+      (λ a uncut leaves. absurd (never-both leaves refl)) (λ a b uncut leaves. absurd (never-both leaves refl)) (λ a b c uncut leaves. absurd (uncut refl))
+      (λ a b c d uncut leaves. ltb-false m (length rowsM) c) (λ a b c d uncut leaves. ltb-false m (length rowsM) c)
 
   same-table-after : (verdictFrom commands start (withBudget q m) .number ≡ 18 → ⊥)
       → tableAfter commands start (withBudget q m) table ≡ tableAfter commands start (withBudget q n) table
@@ -90,36 +82,29 @@ module _ (commands : List Command) (start : Start) (q : Question) (table : List 
 
   -- ---- where the smaller one is cut off
 
+  -- 18 comes after 16 and 17, and only where there are more rows
+  cut-past : verdictFrom commands start (withBudget q m) .number ≡ 18
+      → (ltb (firstNotNormal commands (start .kind)) (length commands) ≡ false) × (start .overlap ≡ false) × (m < length rowsM)
+  unfolding duplicateFound
+  cut-past =
+      by-verdict commands start (withBudget q m)
+      (λ v. v .number ≡ 18 → (ltb (firstNotNormal commands (start .kind)) (length commands) ≡ false) × (start .overlap ≡ false) × (m < length rowsM))
+      (λ a cut. absurd (omega arith)) (λ a b cut. absurd (omega arith)) (λ a b c cut. (a, b, ltb-true m (length rowsM) c))
+      (λ a b c d cut. absurd (omega arith)) (λ a b c d cut. absurd (omega (arith, reported-zero (withBudget q m) rowsM)))
+
   -- the larger one leaves rows too
   cut-leaves : verdictFrom commands start (withBudget q m) .number ≡ 18 → (k : ℕ) → leavesRows (verdictFrom commands start (withBudget q k) .number) ≡ true
-  unfolding verdictFrom leavesRows duplicateFound
+  unfolding leavesRows duplicateFound
   cut-leaves cut k =
-      by-test (ltb (firstNotNormal commands (start .kind)) (length commands)) (λ a. absurd (omega (arith, rw a at cut)))
-      (λ a.
-      by-test (start .overlap) (λ b. absurd (omega (arith, rw (a, b) at cut)))
-      (λ b.
-      by-test (ltb k (length (rowsFrom commands start k))) (λ c. rw (a, b, c))
-      (λ c.
-      by-test (any (hasDuplicate commands (start .kind)) (rowsFrom commands start k)) (λ d. rw (a, b, c, d))
-      (λ d. rw (a, b, c, d, reported-zero (withBudget q k) (rowsFrom commands start k))))))
-
-  cut-longer : verdictFrom commands start (withBudget q m) .number ≡ 18 → m < length rowsM
-  unfolding verdictFrom duplicateFound
-  cut-longer cut =
-      by-test (ltb m (length rowsM)) (ltb-true m (length rowsM))
-      (λ c.
-      by-test (ltb (firstNotNormal commands (start .kind)) (length commands)) (λ a. absurd (omega (arith, rw a at cut)))
-      (λ a.
-      by-test (start .overlap) (λ b. absurd (omega (arith, rw (a, b) at cut)))
-      (λ b.
-      by-test (any (hasDuplicate commands (start .kind)) rowsM) (λ d. absurd (omega (arith, rw (a, b, c, d) at cut)))
-      (λ d. absurd (omega (arith, reported-zero (withBudget q m) rowsM, rw (a, b, c, d) at cut))))))
+      let (normal, apart, longer) = cut-past cut in
+      by-verdict commands start (withBudget q k) (λ v. leavesRows (v .number) ≡ true) (λ a. absurd (never-both a normal)) (λ a b. absurd (never-both b apart))
+      (λ a b c. refl) (λ a b c d. refl) (λ a b c d. rw (reported-zero (withBudget q k) (rowsFrom commands start k)))
 
   cut-first-rows : length (start .row) ≡ 8 → verdictFrom commands start (withBudget q m) .number ≡ 18
       → take (m * rowWords) (tableAfter commands start (withBudget q m) table) ≡ take (m * rowWords) (tableAfter commands start (withBudget q n) table)
   unfolding tableAfter
   cut-first-rows wide cut =
-      let longer = cut-longer cut in
+      let longer = cut-past cut .2 in
       let sized = listing-sized 8 commands (start .kind) (start .row) wide m in
       let few : length (take m rowsM) ≡ m = length-take-le m rowsM (omega arith) in
       let size : length (joined (take m rowsM)) ≡ m * rowWords =

@@ -25,7 +25,7 @@ use Rattle.laws.proofs.Tests.{accepted}
 use Rattle.laws.proofs.Bits.{one-bit, together-lt}
 use Rattle.laws.proofs.Forms.{getD-copies}
 use Rattle.laws.proofs.KindSets.{one-of-type, row-at, row-past}
-use Rattle.laws.proofs.Lists.{map-at, same-refl, length-numbers, numbers-at}
+use Rattle.laws.proofs.Lists.{map-at, table-at, same-refl, length-numbers}
 use Rattle.laws.proofs.Checks.{valid-scheme, valid-roster, Fits, checked-zero}
 use Rattle.laws.proofs.Kept.{handed-roster, handed-good}
 use Rattle.safety.specs.Promises.{Admits, SomeRoster, SomeStoreWithout, SomeStoreWith}
@@ -61,8 +61,7 @@ some-roster s valid =
         admitted = everyone-admitted n (types .0) (types .1);
         as-many = length-map (numbersFrom 0 n) person ∙ length-numbers 0 n;
         each = λ t l.
-            ap (λ (p : Person). p .type) (map-at person (numbersFrom 0 n) 0 nobody t (omega (arith, length-numbers 0 n)))
-            ∙ numbers-at 0 n 0 t l ∙ zero-add t;
+            ap (λ (p : Person). p .type) (table-at person n nobody t l);
       },
     )
 

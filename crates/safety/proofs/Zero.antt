@@ -18,6 +18,7 @@ use Rattle.model.specs.Listing.{Row, fires, isDuplicate, firstDuplicate, hasDup
 use Rattle.model.specs.Verdicts.{Question, Start, startOfCreate, rowsFrom, holds, reported, duplicateFound, verdictFrom}
 use Rattle.model.specs.Outcomes.{verdictAnswer, createCallNumber, designCallNumber, startIn}
 use Rattle.laws.proofs.Tests.{by-test, never-both}
+use Rattle.laws.proofs.Verdicts.{by-verdict, reported-zero}
 use Rattle.laws.proofs.Lists.{none-at, at-none, first-any}
 use Rattle.safety.specs.Premises.{Premises}
 use Rattle.safety.specs.Promises.{ZeroOfCreate, ZeroOfDesign}
@@ -65,11 +66,6 @@ module _ (commands : List Command) (kind : ℕ) where
       bad : Row → Command → Bool
       bad row c = fires kind c row && isDuplicate commands kind c row
 
--- what is answered when nothing is refused has the number 0
-pub reported-zero : (q : Question) (rows : List Row) → reported q rows .number ≡ 0
-unfolding reported
-reported-zero q rows = by-test (any (holds q) rows) (λ t. rw t) (λ t. rw t)
-
 -- ---- the verdict's number is 0 exactly if the four premises hold
 
 module _ (commands : List Command) (start : Start) (q : Question) where
@@ -87,40 +83,24 @@ module _ (commands : List Command) (start : Start) (q : Question) where
       )
 
   pub zero-premises : verdictFrom commands start q .number ≡ 0 → Premises commands start (q .budget)
-  unfolding verdictFrom duplicateFound
-  zero-premises h =
-      by-test (ltb (firstNotNormal commands (start .kind)) (length commands)) (λ a. absurd (never (rw a at h)))
-      (λ a.
-      by-test (start .overlap) (λ b. absurd (never (rw (a, b) at h)))
-      (λ b.
-      by-test (ltb (q .budget) (length rows)) (λ c. absurd (never (rw (a, b, c) at h)))
-      (λ c.
-      by-test (any (hasDuplicate commands (start .kind)) rows) (λ d. absurd (never (rw (a, b, c, d) at h)))
-      (λ d. record {
+  unfolding duplicateFound
+  zero-premises =
+      by-verdict commands start q (λ v. v .number ≡ 0 → Premises commands start (q .budget)) (λ a h. absurd (omega arith)) (λ a b h. absurd (omega arith))
+      (λ a b c h. absurd (omega arith)) (λ a b c d h. absurd (omega arith))
+      (λ a b c d h. record {
         normal = normal-iff commands (start .kind) .0 a;
         apart = b;
         fits = ltb-false (q .budget) (length rows) c;
         single = single-iff commands (start .kind) rows .0 d;
-      }))))
-    where
-      never : {n : ℕ} → suc n ≡ 0 → ⊥
-      never e = omega arith
+      })
 
   -- held is 1 only with 0, and says that a listed row has the right at the type
   pub held-any : verdictFrom commands start q .held ≡ 1 → any (holds q) rows ≡ true
-  unfolding verdictFrom duplicateFound reported
-  held-any h =
-      by-test (ltb (firstNotNormal commands (start .kind)) (length commands)) (λ a. absurd (never (rw a at h)))
-      (λ a.
-      by-test (start .overlap) (λ b. absurd (never (rw (a, b) at h)))
-      (λ b.
-      by-test (ltb (q .budget) (length rows)) (λ c. absurd (never (rw (a, b, c) at h)))
-      (λ c.
-      by-test (any (hasDuplicate commands (start .kind)) rows) (λ d. absurd (never (rw (a, b, c, d) at h)))
-      (λ d. by-test (any (holds q) rows) (λ e. e) (λ e. absurd (never (rw (a, b, c, d, e) at h)))))))
-    where
-      never : _≡_ {A = ℕ} 0 1 → ⊥
-      never e = omega arith
+  unfolding duplicateFound reported
+  held-any =
+      by-verdict commands start q (λ v. v .held ≡ 1 → any (holds q) rows ≡ true) (λ a h. absurd (omega arith)) (λ a b h. absurd (omega arith))
+      (λ a b c h. absurd (omega arith)) (λ a b c d h. absurd (omega arith))
+      (λ a b c d h. by-test (any (holds q) rows) (λ e. e) (λ e. absurd (omega (arith, rw e at h))))
 
   pub zero-iff : (verdictFrom commands start q .number ≡ 0) ↔ Premises commands start (q .budget)
   zero-iff = (zero-premises, λ p. ap (λ (v : Verdict). v .number) (premises-zero p) ∙ reported-zero q rows)

@@ -3,7 +3,7 @@
 use borrow.Author.Needs.{needs}
 use native.Mathlib.Omega.{arith}
 use Rattle.model.specs.Codes.{classOf}
-use Rattle.codes.proofs.Table.{at}
+use Rattle.laws.proofs.Lists.{table-at}
 use Rattle.codes.proofs.class_of.Statement.{statement}
 use Rattle.codes.proofs.class_of.Tie as tie
 
@@ -12,7 +12,7 @@ array-read-result c = search needs
 
 returns : tie.Need-returns
 unfolding classOf
-returns c = at classOf 256 (c .args .byte) (omega arith)
+returns c = table-at classOf 256 0 (c .args .byte) (omega arith)
 
 pub class-of-spec : {M : Type 1} → statement M
 class-of-spec = tie.close (tie.spec array-read-result returns)
