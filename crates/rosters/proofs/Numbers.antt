@@ -5,7 +5,7 @@ use mathlib.Core.Path.{_≡_, refl, sym, ap, _∙_}
 use mathlib.Core.Bool.{Bool, true, false, not}
 use mathlib.Core.List.{List, [], _∷_, map}
 use native.Mathlib.Omega.{arith}
-use borrow.Author.Tests.{le-leb, lt-leb, ltb-true, not-false}
+use borrow.Author.Tests.{le-leb, lt-leb, ltb-true, not-true, not-false}
 use lib.Dec.{ltb}
 use lib.ListN.{length, getD}
 use Rattle.model.specs.Words.{_when_else_, all, any, allDiffer}
@@ -95,18 +95,19 @@ module _ (types count : ℕ) (words : List ℕ) where
 
   pub range-refused : outOfRange types people ≡ true → rosterNumber types people ≡ 3
   unfolding rosterNumber
-  range-refused t = rw t
+  range-refused r = rw r
 
-  module _ (t : outOfRange types people ≡ false) where
-    pub spelling-refused : all spelled codes ≡ false → rosterNumber types people ≡ 4
+  -- with the answers of the calls, each of which was asked once those before it let the roster pass
+  module _ (a : Bool) (ea : a ≡ outOfRange types people) (r : a ≡ false) (b : Bool) (eb : b ≡ all spelled codes) where
+    pub spelling-refused : not b ≡ true → rosterNumber types people ≡ 4
     unfolding rosterNumber
-    spelling-refused s = rw (t, spelled-are, s)
+    spelling-refused h = rw (← ea, r, spelled-are, ← eb, not-true b h)
 
-    module _ (s : all spelled codes ≡ true) where
-      pub same-refused : allDiffer codes ≡ false → rosterNumber types people ≡ 5
+    module _ (s : not b ≡ false) (c : Bool) (ec : c ≡ allDiffer codes) where
+      pub same-refused : not c ≡ true → rosterNumber types people ≡ 5
       unfolding rosterNumber
-      same-refused d = rw (t, spelled-are, s, codes-of count words, d)
+      same-refused h = rw (← ea, r, spelled-are, ← eb, not-false b s, codes-of count words, ← ec, not-true c h)
 
-      pub roster-accepted : allDiffer codes ≡ true → rosterNumber types people ≡ 0
+      pub roster-accepted : not c ≡ false → rosterNumber types people ≡ 0
       unfolding rosterNumber
-      roster-accepted d = rw (t, spelled-are, s, codes-of count words, d)
+      roster-accepted h = rw (← ea, r, spelled-are, ← eb, not-false b s, codes-of count words, ← ec, not-false c h)

@@ -31,7 +31,8 @@ returns : tie.Need-returns Inv-loop μ-loop
 returns c =
     let turn = c .before .before .before in
     sym (sym (turn .before .loop .inv .1)
-    ∙ spelled-failed _ _ _ (turn .before .before .before .pre .0) _ (turn .loop-test .taken) _ _ (c .before .before .code-of .ensures) (c .before .spelled-words .ensures) (c .if1 .taken))
+    ∙ spelled-failed _ _ _ (turn .before .before .before .pre .0) _ (turn .loop-test .taken) _ _
+    (c .before .before .code-of .ensures) (c .before .spelled-words .ensures) (c .if1 .taken))
 
 add-i : tie.Need-add-i Inv-loop μ-loop
 add-i c = search needs
@@ -43,7 +44,8 @@ loop-again : tie.Need-loop-again Inv-loop μ-loop
 loop-again c =
     let turn = c .before .before .before in (
       search needs,
-      spelled-passed _ _ _ (turn .before .before .before .pre .0) _ (turn .loop-test .taken) _ _ (c .before .before .code-of .ensures) (c .before .spelled-words .ensures) (c .if1 .left)
+      spelled-passed _ _ _ (turn .before .before .before .pre .0) _ (turn .loop-test .taken) _ _
+          (c .before .before .code-of .ensures) (c .before .spelled-words .ensures) (c .if1 .left)
           ∙ turn .before .loop .inv .1,
     )
 
