@@ -1,8 +1,8 @@
--- The scheme that a loaded one stands for.
+-- The scheme that a loaded one stands for, and how one is loaded, command by command.
 -- Assumes nothing.
-use Prim.Native.Nat.{_-_}
+use Prim.Native.Nat.{ℕ, _+_, _-_}
 use mathlib.Core.List.{List, _++_}
-use lib.ListN.{take, replicate}
+use lib.ListN.{take, set, replicate}
 use Rattle.model.specs.declared.Command.{Command}
 use Rattle.model.specs.Sizes.{mostCommands}
 use Rattle.model.specs.Schemes.{Scheme, noCommand}
@@ -14,3 +14,11 @@ listed l = take (l .count) (l .commands) ++ replicate (l .count - mostCommands) 
 
 abbrev pub schemeIn : Loaded → Scheme
 schemeIn l = record { types = l .types; kinds = l .kinds; rights = l .rights; commands = listed l }
+
+-- a scheme with these counts and no command yet
+unfoldable pub unloaded : ℕ → ℕ → ℕ → Loaded
+unloaded types kinds rights = record { types = types; kinds = kinds; rights = rights; count = 0; commands = replicate mostCommands noCommand }
+
+-- one command more, kept in its place; past the last place it is counted and not kept
+unfoldable pub pushed : Loaded → Command → Loaded
+pushed l c = record { types = l .types; kinds = l .kinds; rights = l .rights; count = l .count + 1; commands = set (l .commands) (l .count) c }
