@@ -1,3 +1,3 @@
 -- The laws behind the proofs of this crate.
-pub mod Loads
 pub mod Rules
+pub mod Loads

@@ -2,8 +2,9 @@
 -- Assumes nothing.
 use Prim.Native.Nat.{ℕ, _+_, _-_}
 use mathlib.Core.List.{List, _++_}
-use lib.ListN.{take, set, replicate}
+use lib.ListN.{length, take, set, replicate}
 use Rattle.model.specs.declared.Command.{Command}
+use Rattle.model.specs.Words.{writtenOver}
 use Rattle.model.specs.Sizes.{mostCommands}
 use Rattle.model.specs.Schemes.{Scheme, noCommand}
 use Rattle.schemes.specs.declared.Loaded.{Loaded}
@@ -22,3 +23,13 @@ unloaded types kinds rights = record { types = types; kinds = kinds; rights = ri
 -- one command more, kept in its place; past the last place it is counted and not kept
 unfoldable pub pushed : Loaded → Command → Loaded
 pushed l c = record { types = l .types; kinds = l .kinds; rights = l .rights; count = l .count + 1; commands = set (l .commands) (l .count) c }
+
+-- a whole scheme, loaded
+unfoldable pub loadedFrom : Scheme → Loaded
+loadedFrom s = record {
+  types = s .types;
+  kinds = s .kinds;
+  rights = s .rights;
+  count = length (s .commands);
+  commands = writtenOver (take mostCommands (s .commands)) (replicate mostCommands noCommand);
+}
