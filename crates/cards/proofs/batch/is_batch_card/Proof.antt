@@ -1,0 +1,91 @@
+-- `cards::batch::is_batch_card` meets its contract: the tests are the definition's, in its order, on the body as the part from the third byte on.
+-- Assumes nothing.
+use mathlib.Core.Path.{_≡_, sym, _∙_}
+use mathlib.Core.Bool.{true}
+use borrow.Author.Needs.{needs}
+use borrow.Author.Tests.{not-true, not-false, le-leb, lt-leb}
+use borrow.Rule.Slice.PartAt.{part-to-end}
+use Rattle.model.specs.Cards.{isCard, requestCount, isBatchCard}
+use Rattle.cards.proofs.Filling.{card-length}
+use Rattle.cards.proofs.batch.is_batch_card.Statement.{statement}
+use Rattle.cards.proofs.batch.is_batch_card.Tie as tie
+
+is-card-requires : tie.Need-is-card-requires
+is-card-requires c κs = search needs
+
+returns : tie.Need-returns
+unfolding isBatchCard
+returns c = rw (sym (c .before .is-card .ensures) ∙ not-true _ (c .if1 .taken))
+
+a-card : (c : tie.Else1) → isCard (c .before .before .before .args .card .now) ≡ true
+a-card c = sym (c .before .is-card .ensures) ∙ not-false _ (c .if1 .left)
+
+sub-body : tie.Need-sub-body
+sub-body c = card-length _ (a-card c) .0
+
+part-body-start : tie.Need-part-body-start
+part-body-start c = card-length _ (a-card c) .0
+
+part-body-end : tie.Need-part-body-end
+part-body-end c = search needs
+
+returns-2 : tie.Need-returns-2
+unfolding isBatchCard
+returns-2 c = rw (a-card (c .before .before), lt-leb _ _ (rw part-to-end at (c .if2 .taken)))
+
+number-at-requires : tie.Need-number-at-requires
+number-at-requires c κs = search needs
+
+counted : (c : tie.After-number-at) → c .number-at .result ≡ requestCount (c .before .before .before .before .before .before .args .card .now)
+counted c = rw part-to-end at (c .number-at .ensures)
+
+returns-3 : tie.Need-returns-3
+unfolding isBatchCard
+returns-3 c =
+    let long = c .before .before in
+    rw (
+      a-card (long .before .before),
+      le-leb _ _ (rw part-to-end at (long .if2 .left)),
+      lt-leb _ _ (rw (counted (c .before)) at (c .if3 .taken)),
+    )
+
+sub-entries-fill : tie.Need-sub-entries-fill
+sub-entries-fill c = search needs
+
+part-entries-fill-start : tie.Need-part-entries-fill-start
+part-entries-fill-start c = search needs
+
+part-entries-fill-end : tie.Need-part-entries-fill-end
+part-entries-fill-end c = search needs
+
+entries-fill-requires : tie.Need-entries-fill-requires
+entries-fill-requires c κs = search needs
+
+returns-4 : tie.Need-returns-4
+unfolding isBatchCard
+returns-4 c =
+    let few = c .before .before in
+    let long = few .before .before in
+    rw (
+      a-card (long .before .before),
+      le-leb _ _ (rw part-to-end at (long .if2 .left)),
+      le-leb _ _ (rw (counted (few .before)) at (few .if3 .left)),
+    ) (simp (part-to-end, counted (few .before)) at (c .entries-fill .ensures))
+
+pub is-batch-card-spec : {M : Type 1} → statement M
+is-batch-card-spec =
+    tie.close
+    (tie.spec
+    is-card-requires
+    returns
+    sub-body
+    part-body-start
+    part-body-end
+    returns-2
+    number-at-requires
+    returns-3
+    sub-entries-fill
+    part-entries-fill-start
+    part-entries-fill-end
+    entries-fill-requires
+    returns-4)

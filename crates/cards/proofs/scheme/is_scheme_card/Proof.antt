@@ -1,0 +1,69 @@
+-- `cards::scheme::is_scheme_card` meets its contract: the tests are the definition's, in its order, on the body as the part from the third byte on.
+-- Assumes nothing.
+use mathlib.Core.Path.{_≡_, sym, _∙_}
+use mathlib.Core.Bool.{true}
+use native.Mathlib.Omega.{arith}
+use borrow.Author.Needs.{needs}
+use borrow.Author.Tests.{not-true, not-false, le-leb, lt-leb}
+use borrow.Rule.Slice.PartAt.{part-to-end}
+use Rattle.model.specs.Cards.{isCard, isSchemeCard}
+use Rattle.cards.proofs.Filling.{card-length}
+use Rattle.cards.proofs.scheme.is_scheme_card.Statement.{statement}
+use Rattle.cards.proofs.scheme.is_scheme_card.Tie as tie
+
+is-card-requires : tie.Need-is-card-requires
+is-card-requires c κs = search needs
+
+returns : tie.Need-returns
+unfolding isSchemeCard
+returns c = rw (sym (c .before .is-card .ensures) ∙ not-true _ (c .if1 .taken))
+
+a-card : (c : tie.Else1) → isCard (c .before .before .before .args .card .now) ≡ true
+a-card c = sym (c .before .is-card .ensures) ∙ not-false _ (c .if1 .left)
+
+sub-body : tie.Need-sub-body
+sub-body c = card-length _ (a-card c) .0
+
+part-body-start : tie.Need-part-body-start
+part-body-start c = card-length _ (a-card c) .0
+
+part-body-end : tie.Need-part-body-end
+part-body-end c = search needs
+
+returns-2 : tie.Need-returns-2
+unfolding isSchemeCard
+returns-2 c = rw (a-card (c .before .before), lt-leb _ _ (rw part-to-end at (c .if2 .taken)))
+
+shared-slice-read-result : tie.Need-shared-slice-read-result
+shared-slice-read-result c = search needs
+
+cast-result : tie.Need-cast-result
+cast-result c = omega (arith, c .shared-slice-known2 .given 3)
+
+mul-result : tie.Need-mul-result
+mul-result c = omega (arith, c .shared-slice-known2 .given 3)
+
+add-result : tie.Need-add-result
+add-result c = omega (arith, c .shared-slice-known2 .given 3)
+
+returns-3 : tie.Need-returns-3
+unfolding isSchemeCard
+returns-3 c =
+    let long = c .before in
+    rw (part-to-end, a-card (long .before .before), le-leb _ _ (rw part-to-end at (long .if2 .left)))
+
+pub is-scheme-card-spec : {M : Type 1} → statement M
+is-scheme-card-spec =
+    tie.close
+    (tie.spec
+    is-card-requires
+    returns
+    sub-body
+    part-body-start
+    part-body-end
+    returns-2
+    shared-slice-read-result
+    cast-result
+    mul-result
+    add-result
+    returns-3)
