@@ -4,3 +4,4 @@ pub mod Lists
 pub mod Digits
 pub mod Codes
 pub mod Listing
+pub mod Budgets

@@ -20,10 +20,10 @@ pub record Grown (rows more : List Row) : Type 0 where
   pub tail : List Row
   pub is : more ≡ rows ++ tail
 
-grown-refl : (rows : List Row) → Grown rows rows
+pub grown-refl : (rows : List Row) → Grown rows rows
 grown-refl rows = record { tail = []; is = sym (append-nil rows) }
 
-grown-trans : {a b c : List Row} → Grown a b → Grown b c → Grown a c
+pub grown-trans : {a b c : List Row} → Grown a b → Grown b c → Grown a c
 grown-trans {a} g h =
     record { tail = g .tail ++ h .tail; is = h .is ∙ ap (λ (l : List Row). l ++ h .tail) (g .is) ∙ append-assoc a (g .tail) (h .tail) }
 
