@@ -1,0 +1,63 @@
+// The search: each command is tried on each listed row in order, and a new state is written into the free rest of the table.
+use crate::rows::ROW_WORDS;
+use crate::rows::Row;
+use crate::rows::has_row;
+use crate::rows::write_row;
+use crate::steps::fires;
+use crate::steps::moved;
+use model::Command;
+ghost use Prim.Native.Nat.{_≤_};
+ghost use Rattle.model.specs.Words.{groups};
+ghost use Rattle.model.specs.Sizes.{rowWords};
+ghost use Rattle.model.specs.Listing.{put, tried};
+ghost use Rattle.listing.specs.Searches.{Lists, Room, MayTry, Tried};
+
+// How far a search is: rows listed, row at hand, command at hand. One row more than the budget says that the search was cut.
+pub struct Progress {
+    pub rows: usize,
+    pub row: usize,
+    pub command: usize,
+}
+
+// The state is put at the end if it isn't there: into the free rest of the table, if the budget has room for it. Gives the rows listed.
+pub fn put(table: &mut [u32], rows: usize, budget: usize, row: Row) -> usize
+    requires { ⌜ (rows ≤ budget) × Room budget (now table) ⌝ }
+    ensures { λ r. ⌜ Lists (put (row .cells) (groups rowWords rows (now (table .entry)))) budget (now (table .entry)) r (now (table .exit)) ⌝ }
+{
+    if has_row(table, rows, row) {
+        return rows;
+    }
+    if budget <= rows {
+        return rows + 1;
+    }
+    let at = rows * ROW_WORDS;
+    write_row(&mut table[at..], row);
+    rows + 1
+}
+
+// The command at hand is tried on the row at hand, and the next command is at hand.
+pub fn advance(
+    p: Progress,
+    table: &mut [u32],
+    budget: usize,
+    kind: usize,
+    row: Row,
+    c: Command,
+) -> Progress
+    requires { ⌜ MayTry p budget (now table) c ⌝ }
+    ensures { λ r. ⌜ Tried (tried kind c (row .cells) (groups rowWords (p .rows) (now (table .entry)))) budget (now (table .entry)) p r (now (table .exit)) ⌝ }
+{
+    let command = p.command + 1;
+    if !fires(kind, c, row) {
+        return Progress {
+            rows: p.rows,
+            row: p.row,
+            command,
+        };
+    }
+    Progress {
+        rows: put(table, p.rows, budget, moved(c, row)),
+        row: p.row,
+        command,
+    }
+}
