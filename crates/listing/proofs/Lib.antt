@@ -1,3 +1,4 @@
 -- The laws behind the proofs of this crate.
 pub mod Copied
 pub mod Listed
+pub mod Expanding

@@ -1,8 +1,8 @@
 -- The rows that a search has listed, and the table that it has written: what each exit of a step gives, that a search goes on from what it has,
 -- and that a search that was cut has what a longer one has. Assumes nothing.
-use Prim.Native.Nat.{ℕ, suc, _+_, _*_, _-_, _≤_, _<_, min}
-use mathlib.Core.Path.{_≡_, refl, sym, ap, _∙_}
-use mathlib.Core.Bool.{Bool, true, false}
+use Prim.Native.Nat.{ℕ, _+_, _*_, _-_, _≤_, _<_}
+use mathlib.Core.Path.{_≡_, sym, ap, _∙_}
+use mathlib.Core.Bool.{true, false}
 use mathlib.Core.List.{List, [], _∷_, _++_, append-assoc, append-nil}
 use native.Mathlib.Nat.{add-sub-of-le}
 use native.Mathlib.Omega.{arith}
@@ -11,7 +11,7 @@ use lib.Seq.{length-take-le, take-all, take-append-le, take-append-add, drop-app
 use Rattle.model.specs.declared.Command.{Command}
 use Rattle.model.specs.Words.{any, same, groups, joined, writtenOver}
 use Rattle.model.specs.Listing.{Row, fires, moved, put, tried}
-use Rattle.laws.proofs.Lists.{Sized, length-groups, joined-groups, joined-append, groups-joined, length-written}
+use Rattle.laws.proofs.Lists.{Sized, length-groups, joined-groups, joined-append, groups-joined}
 use Rattle.laws.proofs.Listing.{Grown, grown-longer}
 use Rattle.listing.specs.Searches.{Lists}
 

@@ -6,11 +6,13 @@ use crate::rows::write_row;
 use crate::steps::fires;
 use crate::steps::moved;
 use model::Command;
+use schemes::Loaded;
 ghost use Prim.Native.Nat.{_≤_};
 ghost use Rattle.model.specs.Words.{groups};
 ghost use Rattle.model.specs.Sizes.{rowWords};
-ghost use Rattle.model.specs.Listing.{put, tried};
-ghost use Rattle.listing.specs.Searches.{Lists, Room, MayTry, Tried};
+ghost use Rattle.model.specs.Listing.{put, tried, expanded};
+ghost use Rattle.schemes.specs.Loads.{listed};
+ghost use Rattle.listing.specs.Searches.{Lists, Room, MayTry, Tried, Ready};
 
 // How far a search is: rows listed, row at hand, command at hand. One row more than the budget says that the search was cut.
 pub struct Progress {
@@ -60,4 +62,31 @@ pub fn advance(
         row: p.row,
         command,
     }
+}
+
+// The row at hand is expanded: the commands are tried on it in scheme order, unless the search is cut.
+pub fn expanded(
+    p: Progress,
+    table: &mut [u32],
+    budget: usize,
+    kind: usize,
+    row: Row,
+    l: Loaded,
+) -> Progress
+    requires { ⌜ (p .rows ≤ budget) × (Room budget (now table) × Ready l) ⌝ }
+    ensures { λ r. ⌜ Lists (expanded kind (listed l) (row .cells) (groups rowWords (p .rows) (now (table .entry)))) budget (now (table .entry)) (r .rows) (now (table .exit)) ⌝ }
+{
+    let mut q = Progress {
+        rows: p.rows,
+        row: p.row,
+        command: 0,
+    };
+    while q.command < l.count {
+        if budget < q.rows {
+            return q;
+        }
+        let k = q.command;
+        q = advance(q, table, budget, kind, row, l.commands[k]);
+    }
+    q
 }
