@@ -2,3 +2,4 @@
 pub mod Copied
 pub mod Listed
 pub mod Expanding
+pub mod Searching

@@ -2,6 +2,7 @@
 use crate::rows::ROW_WORDS;
 use crate::rows::Row;
 use crate::rows::has_row;
+use crate::rows::row_at;
 use crate::rows::write_row;
 use crate::steps::fires;
 use crate::steps::moved;
@@ -10,7 +11,7 @@ use schemes::Loaded;
 ghost use Prim.Native.Nat.{_≤_};
 ghost use Rattle.model.specs.Words.{groups};
 ghost use Rattle.model.specs.Sizes.{rowWords};
-ghost use Rattle.model.specs.Listing.{put, tried, expanded};
+ghost use Rattle.model.specs.Listing.{put, tried, expanded, listing};
 ghost use Rattle.schemes.specs.Loads.{listed};
 ghost use Rattle.listing.specs.Searches.{Lists, Room, MayTry, Tried, Ready};
 
@@ -89,4 +90,30 @@ pub fn expanded(
         q = advance(q, table, budget, kind, row, l.commands[k]);
     }
     q
+}
+
+// The listing from a start, gone through row by row, until its last row or until the search is cut.
+pub fn search(l: Loaded, kind: usize, start: Row, budget: usize, table: &mut [u32]) -> Progress
+    requires { ⌜ (1 ≤ budget) × (Room budget (now table) × Ready l) ⌝ }
+    ensures { λ r. ⌜ Lists (listing (listed l) kind (start .cells) budget) budget (now (table .entry)) (r .rows) (now (table .exit)) ⌝ }
+{
+    let mut p = Progress {
+        rows: put(table, 0, budget, start),
+        row: 0,
+        command: 0,
+    };
+    while p.row < p.rows {
+        if budget < p.rows {
+            return p;
+        }
+        let i = p.row;
+        let row = row_at(table, i);
+        let next = expanded(p, table, budget, kind, row, l);
+        p = Progress {
+            rows: next.rows,
+            row: i + 1,
+            command: 0,
+        };
+    }
+    p
 }
