@@ -5,29 +5,17 @@ use mathlib.Core.Path.{_≡_, refl, sym, ap, _∙_}
 use mathlib.Core.List.{List, [], _∷_, _++_}
 use native.Mathlib.Numerals.{add-one}
 use native.Mathlib.Omega.{arith}
-use lib.ListN.{length, getD, take, drop, length-drop, take-append-drop}
+use lib.ListN.{length, take, drop, length-drop, take-append-drop}
 use lib.Seq.{take-suc, take-all, length-take-le}
 use Rattle.model.specs.declared.Command.{Command}
 use Rattle.model.specs.Words.{groups}
 use Rattle.model.specs.Schemes.{noCommand, commandIn}
 use Rattle.model.specs.Listing.{Row, tried, expanded}
-use Rattle.laws.proofs.Tests.{passed}
-use Rattle.laws.proofs.Lists.{all-at, Sized, length-groups, groups-at}
+use Rattle.laws.proofs.Lists.{Sized, length-groups, groups-at}
 use Rattle.laws.proofs.Listing.{Grown, tried-grows, expanded-grows}
 use Rattle.laws.proofs.Budgets.{expanded-sized}
-use Rattle.schemes.specs.declared.Loaded.{Loaded}
-use Rattle.schemes.specs.Loads.{listed}
-use Rattle.schemes.proofs.Loads.{listed-length, listed-at}
-use Rattle.listing.specs.Searches.{Lists, isInRow, Ready}
+use Rattle.listing.specs.Searches.{Lists}
 use Rattle.listing.proofs.Listed.{lists-same, lists-rows, lists-on, lists-cut}
-
--- each command of a scheme that is ready has its two cells in a row
-pub in-row : (l : Loaded) → length (l .commands) ≡ 64 → Ready l → (k : ℕ) → k < l .count
-    → (getD (l .commands) k noCommand .source < 8) × (getD (l .commands) k noCommand .destination < 8)
-in-row l whole ready k h =
-    let there : getD (listed l) k noCommand ≡ getD (l .commands) k noCommand = listed-at l whole k h (omega arith) in
-    let test = all-at isInRow (listed l) noCommand (ready .placed) k (omega (arith, listed-length l whole)) in
-    simp passed at (rw there at test)
 
 expanded-append : (kind : ℕ) (cs ds : List Command) (row : Row) (rows : List Row)
     → expanded kind (cs ++ ds) row rows ≡ expanded kind ds row (expanded kind cs row rows)

@@ -10,7 +10,7 @@ pub const ROW_WORDS: usize = 8;
 
 // A stand-in state by value.
 pub struct Row {
-    pub cells: [u32; 8],
+    pub cells: [u32; ROW_WORDS],
 }
 
 // The row at a place of the table.
@@ -19,7 +19,7 @@ pub fn row_at(table: &[u32], i: usize) -> Row
     ensures { λ r. ⌜ r .cells ≡ take rowWords (drop (i * rowWords) (now (table .entry))) ⌝ }
 {
     let at = i * ROW_WORDS;
-    let mut cells = [0u32; 8];
+    let mut cells = [0u32; ROW_WORDS];
     for k in 0..ROW_WORDS {
         cells[k] = table[at + k];
     }

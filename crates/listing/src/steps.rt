@@ -1,6 +1,7 @@
 // What one command does to one stand-in state, "each type being one person".
 use crate::rows::Row;
 use model::Command;
+ghost use mathlib.Core.Bool.{_&&_};
 ghost use mathlib.Core.Path.{_≡_};
 ghost use Prim.Native.Nat.{_<_};
 ghost use Rattle.model.specs.Sizes.{rowWords};
@@ -55,4 +56,12 @@ pub fn duplicate_by(both: u32, c: Command, row: Row) -> bool
     let destination = c.destination as usize;
     let next = lost(c, row);
     rights::meets(rights::common(next.cells[destination], c.z), both)
+}
+
+// The command fires in the state, and is a duplicate step in it.
+pub fn duplicate_step(both: u32, kind: usize, c: Command, row: Row) -> bool
+    requires { ⌜ (c .source < rowWords) × (c .destination < rowWords) ⌝ }
+    ensures { λ r. ⌜ r ≡ (fires kind c (row .cells) && duplicateBy both c (row .cells)) ⌝ }
+{
+    fires(kind, c, row) && duplicate_by(both, c, row)
 }

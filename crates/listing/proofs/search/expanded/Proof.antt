@@ -8,7 +8,8 @@ use lib.ListN.{length, length-map}
 use Rattle.schemes.specs.Loads.{listed}
 use Rattle.schemes.proofs.Loads.{listed-length, listed-at}
 use Rattle.listing.specs.Searches.{Lists}
-use Rattle.listing.proofs.Expanding.{in-row, afterFirst, expanding-begins, expanding-goes-on, expanding-cut, expanding-ends}
+use Rattle.listing.proofs.Placed.{in-row}
+use Rattle.listing.proofs.Expanding.{afterFirst, expanding-begins, expanding-goes-on, expanding-cut, expanding-ends}
 use Rattle.listing.proofs.search.expanded.Statement.{statement}
 use Rattle.listing.proofs.search.expanded.Tie as tie
 
