@@ -7,8 +7,8 @@ pub mod Forms
 pub mod Checks
 pub mod Stores
 pub mod Requests
-pub mod Untouched
 pub mod Kept
+pub mod Untouched
 pub mod KindSets
 pub mod Listing
 pub mod Budgets

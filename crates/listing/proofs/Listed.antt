@@ -1,0 +1,146 @@
+-- The rows that a search has listed, and the table that it has written: what each exit of a step gives, that a search goes on from what it has,
+-- and that a search that was cut has what a longer one has. Assumes nothing.
+use Prim.Native.Nat.{ℕ, _+_, _*_, _-_, _≤_, _<_}
+use mathlib.Core.Path.{_≡_, sym, ap, _∙_}
+use mathlib.Core.Bool.{true, false}
+use mathlib.Core.List.{List, [], _∷_, _++_, append-assoc, append-nil}
+use native.Mathlib.Nat.{add-sub-of-le}
+use native.Mathlib.Omega.{arith}
+use borrow.Author.Tests.{ltb-true, lt-ltb}
+use lib.Dec.{ltb}
+use lib.ListN.{length, take, drop, length-append, length-drop, take-append-drop, drop-of-length-le}
+use lib.Seq.{length-take-le, take-all, take-append-le, take-append-add, drop-append-add, drop-drop}
+use Rattle.model.specs.declared.Command.{Command}
+use Rattle.model.specs.Words.{any, same, groups, joined, writtenOver}
+use Rattle.model.specs.Listing.{Row, fires, moved, put, tried}
+use Rattle.laws.proofs.Tests.{same-test}
+use Rattle.laws.proofs.Lists.{Sized, length-groups, joined-groups, joined-append, groups-joined}
+use Rattle.laws.proofs.Listing.{Grown, grown-longer}
+use Rattle.listing.specs.Searches.{Lists}
+
+-- ---- lent memory
+
+-- what is written over again by as much or more is not seen any more
+pub written-again : (a b old : List ℕ) → length a ≤ length b → writtenOver b (writtenOver a old) ≡ writtenOver b old
+unfolding writtenOver
+written-again a b old h =
+    let k = length b - length a in
+    let e : length a + k ≡ length b = add-sub-of-le h in
+    let left : drop (length a + k) (a ++ drop (length a) old) ≡ drop (length a + k) old =
+    drop-append-add a (drop (length a) old) k ∙ drop-drop k (length a) old in
+    rw e at (ap (λ (r : List ℕ). b ++ r) left)
+
+-- the rest that was lent on and written comes back
+pub rest-written : (at : ℕ) (table new : List ℕ) → at ≤ length table
+    → take at table ++ (writtenOver new (take (length table - at) (drop at table)) ++ drop (length table - at) (drop at table))
+    ≡ writtenOver (take at table ++ new) table
+unfolding writtenOver
+rest-written at table new h =
+    let k = length table - at in
+    let full : take k (drop at table) ≡ drop at table = take-all k (drop at table) (omega (arith, length-drop at table)) in
+    let none : drop k (drop at table) ≡ [] = drop-of-length-le (drop at table) {i = k} (omega (arith, length-drop at table)) in
+    let n : length (take at table ++ new) ≡ at + length new = length-append (take at table) new ∙ omega (arith, length-take-le at table h) in
+    rw (full, none, n, append-nil, drop-drop (length new) at table) (sym (append-assoc (take at table) new (drop (at + length new) table)))
+
+-- ---- the exits of a step: `rows` are those that the table holds
+
+pub put-known : (row : Row) (rows : List Row) → any (same row) rows ≡ true → put row rows ≡ rows
+unfolding put
+put-known row rows h = rw h
+
+pub put-new : (row : Row) (rows : List Row) → any (same row) rows ≡ false → put row rows ≡ rows ++ row ∷ []
+unfolding put
+put-new row rows h = rw h
+
+pub tried-idle : (kind : ℕ) (c : Command) (row : Row) (rows : List Row) → fires kind c row ≡ false → tried kind c row rows ≡ rows
+unfolding tried
+tried-idle kind c row rows f = rw f
+
+pub tried-fires : (kind : ℕ) (c : Command) (row : Row) (rows : List Row) → fires kind c row ≡ true → tried kind c row rows ≡ put (moved c row) rows
+unfolding tried
+tried-fires kind c row rows f = rw f
+
+module _ (budget n : ℕ) (table : List ℕ) (fits : n * 8 ≤ length table) (uncut : n ≤ budget) where
+  -- the rows that the table holds, which the budget doesn't shorten
+  held-rows : joined (take budget (groups 8 n table)) ≡ take (n * 8) table
+  held-rows = ap joined (take-all budget (groups 8 n table) (omega (arith, length-groups 8 n table))) ∙ joined-groups 8 n table
+
+  held-over : writtenOver (take (n * 8) table) table ≡ table
+  unfolding writtenOver
+  held-over = rw (length-take-le (n * 8) table fits) (take-append-drop (n * 8) table)
+
+  -- nothing new
+  pub lists-same : Lists (groups 8 n table) budget table n table
+  lists-same = record {
+    counted = omega (arith, length-groups 8 n table);
+    written = sym (ap (λ (new : List ℕ). writtenOver new table) held-rows ∙ held-over);
+  }
+
+  -- a new row, and room for it
+  pub lists-new : (new : Row) → n < budget → Lists (groups 8 n table ++ new ∷ []) budget table (n + 1) (writtenOver (take (n * 8) table ++ new) table)
+  lists-new new less =
+      let rows = groups 8 n table in
+      let long : length (rows ++ new ∷ []) ≡ n + 1 = length-append rows (new ∷ []) ∙ omega (arith, length-groups 8 n table) in
+      let cells : joined (rows ++ new ∷ []) ≡ take (n * 8) table ++ new =
+      joined-append rows (new ∷ []) ∙ rw (joined-groups 8 n table, append-nil) in
+      record {
+        counted = omega arith;
+        written = ap (λ (w : List ℕ). writtenOver w table) (sym (ap joined (take-all budget (rows ++ new ∷ []) (omega arith)) ∙ cells));
+      }
+
+  -- a new row, and no room: the search is cut
+  pub lists-cut-off : (new : Row) → budget ≤ n → Lists (groups 8 n table ++ new ∷ []) budget table (n + 1) table
+  lists-cut-off new full =
+      let rows = groups 8 n table in
+      let long : length (rows ++ new ∷ []) ≡ n + 1 = length-append rows (new ∷ []) ∙ omega (arith, length-groups 8 n table) in
+      let first : take budget (rows ++ new ∷ []) ≡ take budget rows = take-append-le budget rows (new ∷ []) (omega (arith, length-groups 8 n table)) in
+      record {
+        counted = omega arith;
+        written = sym (ap (λ (w : List ℕ). writtenOver w table) (ap joined first ∙ held-rows) ∙ held-over);
+      }
+
+-- ---- a search that goes on
+
+module _ (budget : ℕ) (old : List ℕ) where
+  -- a search that was not cut has its rows in the table
+  pub lists-rows : {rows : List Row} {n : ℕ} {table : List ℕ} → Sized 8 rows [] → Lists rows budget old n table → n ≤ budget → groups 8 n table ≡ rows
+  unfolding writtenOver
+  lists-rows {rows} {n} {table} sized has uncut =
+      let count : n ≡ length rows = omega arith in
+      let whole : take budget rows ≡ rows = take-all budget rows (omega arith) in
+      let words : table ≡ joined rows ++ drop (length (joined rows)) old = has .written ∙ rw whole in
+      rw (count, words) (groups-joined 8 rows [] (drop (length (joined rows)) old) sized)
+
+  -- and it goes on from them
+  pub lists-on : {rows more : List Row} {n m : ℕ} {table after : List ℕ} → Lists rows budget old n table → n ≤ budget → Grown rows more
+      → Lists more budget table m after → Lists more budget old m after
+  lists-on {rows} {more} {n} {m} {table} {after} has uncut g next =
+      let whole : take budget rows ≡ rows = take-all budget rows (omega arith) in
+      let k = budget - length rows in
+      let seam : length rows + k ≡ budget = omega arith in
+      let first : take budget more ≡ rows ++ take k (g .tail) =
+      ap (take budget) (g .is) ∙ ap (λ (b : ℕ). take b (rows ++ g .tail)) (sym seam) ∙ take-append-add rows (g .tail) k in
+      let longer : length (joined (take budget rows)) ≤ length (joined (take budget more)) =
+      rw (whole, first, joined-append) (omega (arith, length-append (joined rows) (joined (take k (g .tail))))) in
+      record {
+        counted = next .counted;
+        written = next .written ∙ rw (has .written) (written-again (joined (take budget rows)) (joined (take budget more)) old longer);
+      }
+
+  -- a search that was cut has what a longer one has
+  pub lists-cut : {rows more : List Row} {n : ℕ} {table : List ℕ} → Lists rows budget old n table → budget < n → Grown rows more
+      → Lists more budget old n table
+  lists-cut {rows} {more} has cut g =
+      let first : take budget more ≡ take budget rows = ap (take budget) (g .is) ∙ take-append-le budget rows (g .tail) (omega arith) in
+      record { counted = omega (arith, grown-longer g); written = has .written ∙ ap (λ (r : List Row). writtenOver (joined r) old) (sym first) }
+
+  -- the count says exactly whether the rows are more than the budget
+  pub lists-over : {rows : List Row} {n : ℕ} {table : List ℕ} → Lists rows budget old n table → ltb budget n ≡ ltb budget (length rows)
+  lists-over {rows} {n} has =
+      same-test (ltb budget n) (ltb budget (length rows))
+      (λ p. lt-ltb budget (length rows) (omega (arith, ltb-true budget n p)))
+      (λ p. lt-ltb budget n (omega (arith, ltb-true budget (length rows) p)))
+
+  -- and where they are not, it is their number
+  pub lists-count : {rows : List Row} {n : ℕ} {table : List ℕ} → Lists rows budget old n table → length rows ≤ budget → n ≡ length rows
+  lists-count has few = omega arith
