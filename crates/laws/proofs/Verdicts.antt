@@ -7,7 +7,7 @@ use lib.ListN.{length}
 use Rattle.model.specs.declared.Command.{Command}
 use Rattle.model.specs.declared.Verdict.{Verdict}
 use Rattle.model.specs.Words.{any}
-use Rattle.model.specs.Kinds.{firstNotNormal}
+use Rattle.model.specs.Kinds.{both, firstNotNormal}
 use Rattle.model.specs.Listing.{Row, hasDuplicate}
 use Rattle.model.specs.Verdicts.{Question, Start, rowsFrom, only, holds, reported, duplicateFound, verdictFrom}
 use Rattle.laws.proofs.Tests.{by-test}
@@ -32,7 +32,7 @@ module _ (commands : List Command) (start : Start) (q : Question) where
   Cut b = ltb (q .budget) (length rows) ≡ b
 
   abbrev pub Doubles : Bool → Type 0
-  Doubles b = any (hasDuplicate commands (start .kind)) rows ≡ b
+  Doubles b = any (hasDuplicate (both commands (start .kind)) commands (start .kind)) rows ≡ b
 
   pub by-verdict : (P : Verdict → Type 0)
       → (NotNormal true → P (record { number = 16; states = 0; held = 0; state = 0; command = firstNotNormal commands (start .kind) }))
@@ -49,4 +49,4 @@ module _ (commands : List Command) (start : Start) (q : Question) where
       (λ b.
       by-test (ltb (q .budget) (length rows)) (λ c. rw (a, b, c) (p18 a b c))
       (λ c.
-      by-test (any (hasDuplicate commands (start .kind)) rows) (λ d. rw (a, b, c, d) (p19 a b c d)) (λ d. rw (a, b, c, d) (p0 a b c d)))))
+      by-test (any (hasDuplicate (both commands (start .kind)) commands (start .kind)) rows) (λ d. rw (a, b, c, d) (p19 a b c d)) (λ d. rw (a, b, c, d) (p0 a b c d)))))

@@ -1,2 +1,1 @@
-pub mod Duplicates
 pub mod Searches

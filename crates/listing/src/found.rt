@@ -14,7 +14,7 @@ ghost use Rattle.model.specs.Rights.{has, together};
 ghost use Rattle.model.specs.Forms.{cellAt};
 ghost use Rattle.schemes.specs.Loads.{listed};
 ghost use Rattle.listing.specs.Searches.{Ready};
-ghost use Rattle.listing.specs.Duplicates.{firstDuplicateBy, hasDuplicateBy};
+ghost use Rattle.model.specs.Listing.{firstDuplicate, hasDuplicate};
 
 // The first row that holds the right at type t, and n where none does.
 pub fn first_holding(table: &[u32], n: usize, t: usize, right: usize) -> usize
@@ -48,7 +48,7 @@ pub fn union_at(table: &[u32], n: usize, t: usize) -> u32
 // The first command that is a duplicate step in the state, and the count of the commands where none is.
 pub fn first_duplicate_in(row: Row, kind: usize, both: u32, l: Loaded) -> usize
     requires { ⌜ Ready l ⌝ }
-    ensures { λ r. ⌜ r ≡ firstDuplicateBy both (listed l) kind (row .cells) ⌝ }
+    ensures { λ r. ⌜ r ≡ firstDuplicate both (listed l) kind (row .cells) ⌝ }
 {
     let n = l.count;
     for k in 0..n {
@@ -62,7 +62,7 @@ pub fn first_duplicate_in(row: Row, kind: usize, both: u32, l: Loaded) -> usize
 // The first row in which a command is a duplicate step, and n where none is.
 pub fn first_duplicate_row(table: &[u32], n: usize, kind: usize, both: u32, l: Loaded) -> usize
     requires { ⌜ (n * rowWords ≤ length (now table)) × Ready l ⌝ }
-    ensures { λ r. ⌜ r ≡ firstPlace (hasDuplicateBy both (listed l) kind) (groups rowWords n (now (table .entry))) ⌝ }
+    ensures { λ r. ⌜ r ≡ firstPlace (hasDuplicate both (listed l) kind) (groups rowWords n (now (table .entry))) ⌝ }
 {
     for i in 0..n {
         if first_duplicate_in(row_at(table, i), kind, both, l) < l.count {

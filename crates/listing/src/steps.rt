@@ -8,7 +8,7 @@ ghost use Rattle.model.specs.Sizes.{rowWords};
 ghost use Rattle.model.specs.Forms.{lose};
 ghost use Rattle.model.specs.Kinds.{isStep};
 ghost use Rattle.model.specs.Listing.{fires, moved};
-ghost use Rattle.listing.specs.Duplicates.{duplicateBy};
+ghost use Rattle.model.specs.Listing.{isDuplicate};
 
 // The command is a grant or an internal of the kind.
 pub fn is_step(kind: usize, c: Command) -> bool
@@ -51,7 +51,7 @@ pub fn moved(c: Command, row: Row) -> Row
 // After the loss, the destination type still holds a right of Z that is in the set.
 pub fn duplicate_by(both: u32, c: Command, row: Row) -> bool
     requires { ⌜ (c .source < rowWords) × (c .destination < rowWords) ⌝ }
-    ensures { λ r. ⌜ r ≡ duplicateBy both c (row .cells) ⌝ }
+    ensures { λ r. ⌜ r ≡ isDuplicate both c (row .cells) ⌝ }
 {
     let destination = c.destination as usize;
     let next = lost(c, row);
@@ -61,7 +61,7 @@ pub fn duplicate_by(both: u32, c: Command, row: Row) -> bool
 // The command fires in the state, and is a duplicate step in it.
 pub fn duplicate_step(both: u32, kind: usize, c: Command, row: Row) -> bool
     requires { ⌜ (c .source < rowWords) × (c .destination < rowWords) ⌝ }
-    ensures { λ r. ⌜ r ≡ (fires kind c (row .cells) && duplicateBy both c (row .cells)) ⌝ }
+    ensures { λ r. ⌜ r ≡ (fires kind c (row .cells) && isDuplicate both c (row .cells)) ⌝ }
 {
     fires(kind, c, row) && duplicate_by(both, c, row)
 }

@@ -12,7 +12,7 @@ use Rattle.model.specs.Words.{_when_else_, any, firstPlace, same}
 use Rattle.model.specs.Rights.{meets, common}
 use Rattle.model.specs.Schemes.{commandIn}
 use Rattle.model.specs.Forms.{cellAt, held, lose, act}
-use Rattle.model.specs.Kinds.{isStep, both}
+use Rattle.model.specs.Kinds.{isStep}
 
 abbrev pub Row : Type 0
 Row = List ℕ
@@ -82,12 +82,13 @@ pub data Reach (commands : List Command) (kind : ℕ) (start : Row) : Row → Ty
       → Reach commands kind start (moved (commandIn commands k) row)
 
 -- "A step is *duplicate* if, after the loss, the destination type still holds a right of Z that is both propagation and deletable."
-unfoldable pub isDuplicate : List Command → ℕ → Command → Row → Bool
-isDuplicate commands kind c row = meets (common (cellAt (lose c (c .source) row) (c .destination)) (c .z)) (both commands kind)
+-- `both` is the set of those rights.
+unfoldable pub isDuplicate : ℕ → Command → Row → Bool
+isDuplicate both c row = meets (common (cellAt (lose c (c .source) row) (c .destination)) (c .z)) both
 
 -- the first command that is a duplicate step in this state, and the length of the commands where none is
-unfoldable pub firstDuplicate : List Command → ℕ → Row → ℕ
-firstDuplicate commands kind row = firstPlace (λ c. fires kind c row && isDuplicate commands kind c row) commands
+unfoldable pub firstDuplicate : ℕ → List Command → ℕ → Row → ℕ
+firstDuplicate both commands kind row = firstPlace (λ c. fires kind c row && isDuplicate both c row) commands
 
-unfoldable pub hasDuplicate : List Command → ℕ → Row → Bool
-hasDuplicate commands kind row = ltb (firstDuplicate commands kind row) (length commands)
+unfoldable pub hasDuplicate : ℕ → List Command → ℕ → Row → Bool
+hasDuplicate both commands kind row = ltb (firstDuplicate both commands kind row) (length commands)

@@ -14,7 +14,7 @@ use Rattle.model.specs.Schemes.{Scheme, isCreate, commandAt}
 use Rattle.model.specs.Rosters.{Person}
 use Rattle.model.specs.Forms.{cellAt}
 use Rattle.model.specs.Stores.{Design, namedNumber}
-use Rattle.model.specs.Kinds.{firstNotNormal, overlaps, rowOfCreate, rowOfDesign}
+use Rattle.model.specs.Kinds.{both, firstNotNormal, overlaps, rowOfCreate, rowOfDesign}
 use Rattle.model.specs.Listing.{Row, listing, firstDuplicate, hasDuplicate}
 
 -- "The question names a start, a type, a right and a budget, 1 to 2,048 states."
@@ -69,8 +69,8 @@ reported q rows =
 -- 19: "a duplicate step (state and command: lowest state, then lowest command; states = whole count)"
 unfoldable pub duplicateFound : List Command → ℕ → List Row → Verdict
 duplicateFound commands kind rows =
-    let state = firstPlace (hasDuplicate commands kind) rows in
-    record { number = 19; states = length rows; held = 0; state = state; command = firstDuplicate commands kind (getD rows state []) }
+    let state = firstPlace (hasDuplicate (both commands kind) commands kind) rows in
+    record { number = 19; states = length rows; held = 0; state = state; command = firstDuplicate (both commands kind) commands kind (getD rows state []) }
 
 -- "A verdict: 15, 4, 12, 16, 17, 18, 19", from 16 on: the same for both starts
 unfoldable pub verdictFrom : List Command → Start → Question → Verdict
@@ -80,7 +80,7 @@ verdictFrom commands start q =
     record { number = 16; states = 0; held = 0; state = 0; command = firstNotNormal commands kind } when ltb (firstNotNormal commands kind) (length commands) else
     only 17 when start .overlap else
     record { number = 18; states = q .budget; held = 0; state = 0; command = 0 } when ltb (q .budget) (length rows) else
-    duplicateFound commands kind rows when any (hasDuplicate commands kind) rows else
+    duplicateFound commands kind rows when any (hasDuplicate (both commands kind) commands kind) rows else
     reported q rows
 
 -- "Every refusal leaves lent memory as found, save 18 and 19, which leave the listed rows."

@@ -56,7 +56,7 @@ pub record Ground (commands : List Command) (kind : ℕ) (rows : List Row) : Typ
   pub closed : (row : Row) → Among row rows → (j : ℕ) → j < length commands → fires kind (commandIn commands j) row ≡ true
       → Among (moved (commandIn commands j) row) rows
   pub single : (row : Row) → Among row rows → (j : ℕ) → j < length commands → fires kind (commandIn commands j) row ≡ true
-      → isDuplicate commands kind (commandIn commands j) row ≡ false
+      → isDuplicate (both commands kind) (commandIn commands j) row ≡ false
   pub sized : (row : Row) → Among row rows → length row ≡ 8
 
 module _ (commands : List Command) (kind : ℕ) (people : List Person) where

@@ -15,7 +15,7 @@ use Rattle.model.specs.Schemes.{Scheme}
 use Rattle.model.specs.Rosters.{Person, rosterWords}
 use Rattle.model.specs.Stores.{Design, storeWords}
 use Rattle.model.specs.Requests.{Request}
-use Rattle.model.specs.Kinds.{firstNotNormal}
+use Rattle.model.specs.Kinds.{both, firstNotNormal}
 use Rattle.model.specs.Listing.{hasDuplicate}
 use Rattle.model.specs.Verdicts.{Start, rowsFrom}
 use Rattle.model.specs.Outcomes.{Handed}
@@ -53,7 +53,7 @@ moment : {s : Scheme} {people₀ people : List Person} {designs₀ designs : Lis
     → not (ltb (firstNotNormal (s .commands) (start .kind)) (length (s .commands))) ≡ normal
     → not (start .overlap) ≡ apart
     → leb (length (rowsFrom (s .commands) start budget)) budget ≡ fits
-    → not (any (hasDuplicate (s .commands) (start .kind)) (rowsFrom (s .commands) start budget)) ≡ single
+    → not (any (hasDuplicate (both (s .commands) (start .kind)) (s .commands) (start .kind)) (rowsFrom (s .commands) start budget)) ≡ single
     → Moment normal apart fits single
 moment {s} {people₀} {people} {designs₀} {designs} {code} {start} begins later budget n a f u = record {
   scheme = s;

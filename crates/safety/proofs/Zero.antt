@@ -13,7 +13,7 @@ use Rattle.model.specs.declared.Command.{Command}
 use Rattle.model.specs.declared.Verdict.{Verdict}
 use Rattle.model.specs.Words.{any}
 use Rattle.model.specs.Schemes.{commandIn, commandAt, noCommand}
-use Rattle.model.specs.Kinds.{isStep, isNormal, firstNotNormal}
+use Rattle.model.specs.Kinds.{both, isStep, isNormal, firstNotNormal}
 use Rattle.model.specs.Listing.{Row, fires, isDuplicate, firstDuplicate, hasDuplicate}
 use Rattle.model.specs.Verdicts.{Question, Start, startOfCreate, rowsFrom, holds, reported, duplicateFound, verdictFrom}
 use Rattle.model.specs.Outcomes.{verdictAnswer, createCallNumber, designCallNumber, startIn}
@@ -49,22 +49,22 @@ module _ (commands : List Command) (kind : ℕ) where
       bad c = isStep kind c && not (isNormal commands kind c)
 
   -- 19 is not given exactly if no step of a listed state is duplicate
-  single-iff : (rows : List Row) → (any (hasDuplicate commands kind) rows ≡ false)
+  single-iff : (rows : List Row) → (any (hasDuplicate (both commands kind) commands kind) rows ≡ false)
       ↔ ((i k : ℕ) → i < length rows → k < length commands → fires kind (commandIn commands k) (getD rows i []) ≡ true
-      → isDuplicate commands kind (commandIn commands k) (getD rows i []) ≡ false)
+      → isDuplicate (both commands kind) (commandIn commands k) (getD rows i []) ≡ false)
   unfolding hasDuplicate firstDuplicate
   single-iff rows = (
-    λ h i k l m. both-false (fires kind (commandIn commands k) (getD rows i [])) (isDuplicate commands kind (commandIn commands k) (getD rows i [])) .0
+    λ h i k l m. both-false (fires kind (commandIn commands k) (getD rows i [])) (isDuplicate (both commands kind) (commandIn commands k) (getD rows i [])) .0
         (none-at (bad (getD rows i [])) commands noCommand
-        (sym (first-any (bad (getD rows i [])) commands) ∙ none-at (hasDuplicate commands kind) rows [] h i l) k m),
-    λ h. at-none (hasDuplicate commands kind) rows []
+        (sym (first-any (bad (getD rows i [])) commands) ∙ none-at (hasDuplicate (both commands kind) commands kind) rows [] h i l) k m),
+    λ h. at-none (hasDuplicate (both commands kind) commands kind) rows []
         (λ i l. first-any (bad (getD rows i [])) commands
         ∙ at-none (bad (getD rows i [])) commands noCommand
-        (λ k m. both-false (fires kind (commandIn commands k) (getD rows i [])) (isDuplicate commands kind (commandIn commands k) (getD rows i [])) .1 (h i k l m))),
+        (λ k m. both-false (fires kind (commandIn commands k) (getD rows i [])) (isDuplicate (both commands kind) (commandIn commands k) (getD rows i [])) .1 (h i k l m))),
   )
     where
       bad : Row → Command → Bool
-      bad row c = fires kind c row && isDuplicate commands kind c row
+      bad row c = fires kind c row && isDuplicate (both commands kind) c row
 
 -- ---- the verdict's number is 0 exactly if the four premises hold
 

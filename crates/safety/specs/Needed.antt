@@ -12,7 +12,7 @@ use Rattle.model.specs.Schemes.{Scheme}
 use Rattle.model.specs.Rosters.{Person, typeAt}
 use Rattle.model.specs.Forms.{cellAt}
 use Rattle.model.specs.Stores.{Design}
-use Rattle.model.specs.Kinds.{firstNotNormal, overlaps, rowOfDesign}
+use Rattle.model.specs.Kinds.{both, firstNotNormal, overlaps, rowOfDesign}
 use Rattle.model.specs.Listing.{hasDuplicate}
 use Rattle.model.specs.Verdicts.{Start, rowsFrom, holds}
 use Rattle.safety.specs.Histories.{Later}
@@ -31,7 +31,7 @@ pub record Moment (normal apart fits single : Bool) : Type 0 where
   pub is-normal : not (ltb (firstNotNormal (scheme .commands) (start .kind)) (length (scheme .commands))) ≡ normal
   pub is-apart : not (start .overlap) ≡ apart
   pub is-fitting : leb (length (rowsFrom (scheme .commands) start budget)) budget ≡ fits
-  pub is-single : not (any (hasDuplicate (scheme .commands) (start .kind)) (rowsFrom (scheme .commands) start budget)) ≡ single
+  pub is-single : not (any (hasDuplicate (both (scheme .commands) (start .kind)) (scheme .commands) (start .kind)) (rowsFrom (scheme .commands) start budget)) ≡ single
   pub people : List Person
   pub designs : List Design
   pub later : Later scheme people₀ designs₀ people designs

@@ -10,7 +10,7 @@ use Rattle.model.specs.Schemes.{Scheme, isCreate, commandIn, commandAt}
 use Rattle.model.specs.Rosters.{Person}
 use Rattle.model.specs.Stores.{Design, namedNumber}
 use Rattle.model.specs.Requests.{Request, requested}
-use Rattle.model.specs.Kinds.{isStep, isNormal}
+use Rattle.model.specs.Kinds.{both, isStep, isNormal}
 use Rattle.model.specs.Listing.{fires, isDuplicate}
 use Rattle.model.specs.Verdicts.{Start, startOfCreate, rowsFrom}
 use Rattle.model.specs.Outcomes.{Handed, peopleIn, designsIn, hasRooms, handedNumber, requestCallNumber, startIn}
@@ -26,7 +26,7 @@ pub record Premises (commands : List Command) (start : Start) (budget : ℕ) : T
   -- and shows no duplicate step
   pub single : (i k : ℕ) → i < length (rowsFrom commands start budget) → k < length commands
       → fires (start .kind) (commandIn commands k) (getD (rowsFrom commands start budget) i []) ≡ true
-      → isDuplicate commands (start .kind) (commandIn commands k) (getD (rowsFrom commands start budget) i []) ≡ false
+      → isDuplicate (both commands (start .kind)) (commandIn commands k) (getD (rowsFrom commands start budget) i []) ≡ false
 
 -- a start, and the roster and the store at the first moment that its verdict speaks of
 pub data Begins : Scheme → List Person → List Design → List ℕ → Start → Type 0 where

@@ -11,14 +11,14 @@ use Rattle.model.specs.Schemes.{noCommand}
 use Rattle.model.specs.Listing.{Row, fires}
 use Rattle.schemes.specs.Loads.{listed}
 use Rattle.schemes.proofs.Loads.{listed-length, listed-at}
-use Rattle.listing.specs.Duplicates.{duplicateBy, firstDuplicateBy}
+use Rattle.model.specs.Listing.{isDuplicate, firstDuplicate}
 use Rattle.listing.proofs.Placed.{in-row}
 use Rattle.listing.proofs.Firsts.{first-goes-on, first-found, first-nowhere}
 use Rattle.listing.proofs.found.first_duplicate_in.Statement.{statement}
 use Rattle.listing.proofs.found.first_duplicate_in.Tie as tie
 
 abbrev isOne : ℕ → ℕ → Row → Command → Bool
-isOne both kind row c = fires kind c row && duplicateBy both c row
+isOne both kind row c = fires kind c row && isDuplicate both c row
 
 abbrev Inv-loop : tie.InvT-loop
 Inv-loop row kind both l n k₀ k =
@@ -42,7 +42,7 @@ duplicate-step-requires c κs =
     in-row (b .before .args .t4) (b .loop .inv .0 .0) (b .before .pre) (b .loop .k) (omega arith)
 
 returns : tie.Need-returns Inv-loop μ-loop
-unfolding firstDuplicateBy
+unfolding firstDuplicate
 returns c =
     let b = c .before .before .before .before in
     let a = b .before .args in
@@ -70,7 +70,7 @@ loop-again c =
     )
 
 returns-2 : tie.Need-returns-2 Inv-loop μ-loop
-unfolding firstDuplicateBy
+unfolding firstDuplicate
 returns-2 c =
     let b = c .before in
     let a = b .before .args in

@@ -9,7 +9,7 @@ use lib.ListN.{length, take, length-map}
 use Rattle.model.specs.Words.{any, groups}
 use Rattle.laws.proofs.Lists.{length-groups, groups-at}
 use Rattle.schemes.specs.Loads.{listed}
-use Rattle.listing.specs.Duplicates.{hasDuplicateBy}
+use Rattle.model.specs.Listing.{hasDuplicate}
 use Rattle.listing.proofs.Firsts.{first-goes-on, first-found, first-nowhere}
 use Rattle.listing.proofs.Duplicated.{has-one, has-none}
 use Rattle.listing.proofs.found.first_duplicate_row.Statement.{statement}
@@ -17,7 +17,7 @@ use Rattle.listing.proofs.found.first_duplicate_row.Tie as tie
 
 abbrev Inv-loop : tie.InvT-loop
 Inv-loop table n kind both l i₀ i =
-    (length (l .commands) ≡ 64) × ((i ≤ n) × (any (hasDuplicateBy both (listed l) kind) (take i (groups 8 n table)) ≡ false))
+    (length (l .commands) ≡ 64) × ((i ≤ n) × (any (hasDuplicate both (listed l) kind) (take i (groups 8 n table)) ≡ false))
 
 abbrev μ-loop : tie.MeasureT-loop
 μ-loop table n kind both l i₀ i = n - i
@@ -38,7 +38,7 @@ returns c =
     let rows = groups 8 (a .n) (a .table .now) in
     let found = has-one (a .both) (a .kind) (a .l) (b .loop .inv .0) _ _ (c .before .before .first-duplicate-in .ensures) (c .if1 .taken) in
     let row = groups-at 8 (a .n) (a .table .now) [] (b .loop .i) (omega arith) ∙ sym (c .before .before .before .row-at .ensures) in
-    sym (first-found (hasDuplicateBy (a .both) (listed (a .l)) (a .kind)) rows [] (b .loop .i) (omega (arith, length-groups 8 (a .n) (a .table .now)))
+    sym (first-found (hasDuplicate (a .both) (listed (a .l)) (a .kind)) rows [] (b .loop .i) (omega (arith, length-groups 8 (a .n) (a .table .now)))
     (b .loop .inv .1 .1) (rw row found))
 
 add-i : tie.Need-add-i Inv-loop μ-loop
@@ -57,7 +57,7 @@ loop-again c =
       b .loop .inv .0,
       (
         omega arith,
-        first-goes-on (hasDuplicateBy (a .both) (listed (a .l)) (a .kind)) rows [] (b .loop .i) (omega (arith, length-groups 8 (a .n) (a .table .now)))
+        first-goes-on (hasDuplicate (a .both) (listed (a .l)) (a .kind)) rows [] (b .loop .i) (omega (arith, length-groups 8 (a .n) (a .table .now)))
             (b .loop .inv .1 .1) (rw row found),
       ),
     )
@@ -68,7 +68,7 @@ returns-2 c =
     let a = b .before .before .args in
     let rows = groups 8 (a .n) (a .table .now) in
     let end : b .loop .i ≡ a .n = omega arith in
-    sym (first-nowhere (hasDuplicateBy (a .both) (listed (a .l)) (a .kind)) rows [] (b .loop .i) (omega (arith, length-groups 8 (a .n) (a .table .now)))
+    sym (first-nowhere (hasDuplicate (a .both) (listed (a .l)) (a .kind)) rows [] (b .loop .i) (omega (arith, length-groups 8 (a .n) (a .table .now)))
     (b .loop .inv .1 .1) ∙ end)
 
 pub first-duplicate-row-spec : {M : Type 1} → statement M

@@ -1,6 +1,6 @@
 -- `listing::steps::duplicate_by` meets its contract: the body is the definition, at the state after the loss.
 -- Assumes nothing.
-use Rattle.listing.specs.Duplicates.{duplicateBy}
+use Rattle.model.specs.Listing.{isDuplicate}
 use borrow.Author.Needs.{needs}
 use Rattle.listing.proofs.steps.duplicate_by.Statement.{statement}
 use Rattle.listing.proofs.steps.duplicate_by.Tie as tie
@@ -24,7 +24,7 @@ meets-requires : tie.Need-meets-requires
 meets-requires c κs = search needs
 
 returns : tie.Need-returns
-unfolding duplicateBy
+unfolding isDuplicate
 returns c = rw (c .meets .ensures, c .before .common .ensures, c .before .before .before .lost .ensures)
 
 pub duplicate-by-spec : {M : Type 1} → statement M
