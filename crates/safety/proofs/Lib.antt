@@ -11,3 +11,4 @@ pub mod Reached
 pub mod Witness
 pub mod Budgeted
 pub mod Stored
+pub mod Once

@@ -3,3 +3,4 @@ pub mod Premises
 pub mod Promises
 pub mod Needed
 pub mod Stores
+pub mod Once
