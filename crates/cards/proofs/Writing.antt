@@ -66,9 +66,9 @@ four-set (w ∷ x ∷ y ∷ z ∷ words) a b c d h = refl
 abbrev pub wordsOf : List (List ℕ) → List ℕ
 wordsOf es = rosterWords (map readable (map personOfEntry es))
 
--- where the next entry begins, and its person's words
+-- the entry at hand: it stands whole, where the next one begins, and its person's words
 module _ (rest : List ℕ) (n i at : ℕ) (fill : entriesFill 2 (n - i) (drop at rest) ≡ true) where
-  pub record Next : Type 0 where
+  pub record AtHand : Type 0 where
     pub fixed : 2 ≤ length (drop at rest)
     pub whole : entrySize 2 (drop at rest) ≤ length (drop at rest)
     pub inside : at + entrySize 2 (drop at rest) ≤ length rest
@@ -76,9 +76,9 @@ module _ (rest : List ℕ) (n i at : ℕ) (fill : entriesFill 2 (n - i) (drop at
     pub words : wordsOf (entries 2 (n - i) (drop at rest))
         ≡ wordsOfPerson (readable (personIn (drop at rest))) ++ wordsOf (entries 2 (n - (i + 1)) (drop (at + entrySize 2 (drop at rest)) rest))
 
-  pub next : i < n → Next
+  pub at-hand : i < n → AtHand
   unfolding rosterWords
-  next l =
+  at-hand l =
       let more : n - i ≡ suc (n - (i + 1)) = omega arith in
       let facts = simp passed at (rw more at fill) in
       let later : drop (entrySize 2 (drop at rest)) (drop at rest) ≡ drop (at + entrySize 2 (drop at rest)) rest =
@@ -115,7 +115,7 @@ module _ (rest first : List ℕ) (n : ℕ) (room : 4 * n ≤ length first) where
         → Written rest first n (take (4 * i) words ++ (part ++ drop (length words - 4 * i) (drop (4 * i) words))) (at + size) (i + 1)
     written-next l size part s p =
         let new = wordsOfPerson (readable (personIn (drop at rest))) in
-        let after = next rest n i at (here .filled) l in
+        let after = at-hand rest n i at (here .filled) l in
         let k = length words - 4 * i in
         let e : take (4 * i) words ++ (part ++ drop k (drop (4 * i) words)) ≡ writtenOver (take (4 * i) words ++ new) words =
         rw p (rest-written (4 * i) words new (omega arith)) in

@@ -9,7 +9,8 @@ ghost use mathlib.Core.Path.{_≡_};
 ghost use Rattle.model.specs.Cards.{isBatchCard};
 ghost use Rattle.cards.specs.Entries.{nextOf};
 
-const MOST_REQUESTS: usize = 256;
+// The most requests of a batch.
+pub const MOST_REQUESTS: usize = 256;
 
 // The bytes of a request before its code.
 pub const REQUEST_FIXED: usize = 4;

@@ -12,11 +12,13 @@ ghost use lib.ListN.{length, take, drop};
 ghost use Rattle.model.specs.Words.{bigEndian};
 ghost use Rattle.model.specs.Cards.{isCard};
 
-// A card: one version byte, two bytes of body length, the body.
+// The version byte that a card begins with.
 pub const VERSION: u8 = 1;
 
+// The bytes before the body: the version, and two bytes of body length.
 pub const HEADER: usize = 3;
 
+// The most bytes of a card, its header included.
 pub const MOST_CARD: usize = 65536;
 
 // The number that two bytes of the slice write.

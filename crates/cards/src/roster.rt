@@ -17,9 +17,10 @@ ghost use Rattle.model.specs.Rosters.{wordsOfPerson, rosterWords};
 ghost use Rattle.model.specs.Cards.{body, entrySize, entriesFill, entries, personOfEntry, peopleOf, isRosterCard};
 ghost use Rattle.cards.specs.People.{personIn, spelledOnly, readable};
 
-// The bytes of a person before the code, and the words of one in lent memory.
+// The bytes of a person before the code.
 pub const PERSON_FIXED: usize = 2;
 
+// The words of a person in lent memory.
 const PERSON_WORDS: usize = 4;
 
 // The card is a roster's: its people fill it.
@@ -40,10 +41,11 @@ pub fn is_roster_card(card: &[u8]) -> bool
 fn readable_code(code: &[u8]) -> Code
     ensures { λ r. ⌜ r ≡ packed (spelledOnly (now (code .entry))) ⌝ }
 {
-    if spelled(code) {
-        return pack(code);
+    let words = pack(code);
+    if !spelled(code) {
+        return Code { a: 0, b: 0, c: 0 };
     }
-    Code { a: 0, b: 0, c: 0 }
+    words
 }
 
 // The person whose entry begins the rest, written to the first four words; and the entry's size.

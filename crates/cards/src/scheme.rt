@@ -16,9 +16,10 @@ ghost use Rattle.model.specs.Cards.{commandOf, schemeOf, isSchemeCard};
 ghost use Rattle.schemes.specs.Loads.{loadedFrom};
 ghost use Rattle.cards.specs.Schemes.{ReadScheme};
 
-// The four counts, and the bytes of a command.
+// The bytes of the four counts, before the first command.
 const COUNTS: usize = 4;
 
+// The bytes of a command.
 const COMMAND_BYTES: usize = 16;
 
 // The card is a scheme's: its commands fill it.

@@ -10,7 +10,7 @@ use Rattle.model.specs.Words.{writtenOver}
 use Rattle.model.specs.Rosters.{wordsOfPerson}
 use Rattle.model.specs.Cards.{entrySize}
 use Rattle.cards.specs.People.{personIn, readable}
-use Rattle.cards.proofs.Writing.{Written, Next, next, written-none, written-next, written-last}
+use Rattle.cards.proofs.Writing.{Written, AtHand, at-hand, written-none, written-next, written-last}
 use Rattle.cards.proofs.roster.write_people.Statement.{statement}
 use Rattle.cards.proofs.roster.write_people.Tie as tie
 
@@ -48,16 +48,16 @@ part-write-person-end-2 : tie.Need-part-write-person-end-2 Inv-loop μ-loop
 part-write-person-end-2 c = search needs
 
 -- the entry at hand
-at-hand : (c : tie.In-loop Inv-loop μ-loop)
+entry-at : (c : tie.In-loop Inv-loop μ-loop)
     → let here = c .before .loop in
-    Next (c .before .before .before .before .args .rest .now) (c .before .before .before .before .args .n) (here .i) (here .at) (here .inv .filled)
-at-hand c = next _ _ _ _ (c .before .loop .inv .filled) (c .loop-test .taken)
+    AtHand (c .before .before .before .before .args .rest .now) (c .before .before .before .before .args .n) (here .i) (here .at) (here .inv .filled)
+entry-at c = at-hand _ _ _ _ (c .before .loop .inv .filled) (c .loop-test .taken)
 
 write-person-requires : tie.Need-write-person-requires Inv-loop μ-loop
 write-person-requires c κs =
     let turn = c .before .before in
     let here = turn .before .loop in
-    let entry = at-hand turn in
+    let entry = entry-at turn in
     rw (part-to-end (turn .before .before .before .before .args .rest .now) (here .at), part-to-end (here .words) (4 * here .i))
     (entry .fixed, entry .whole, omega (arith, length-drop (4 * here .i) (here .words)))
 
@@ -73,7 +73,7 @@ wrote c =
     rw (part-to-end (c .before .before .before .before .before .before .before .args .rest .now) (here .at)) at (c .write-person .ensures)
 
 add-at : tie.Need-add-at Inv-loop μ-loop
-add-at c = omega (arith, at-hand (c .before .before .before .before .before) .inside, wrote (c .before .before) .0)
+add-at c = omega (arith, entry-at (c .before .before .before .before .before) .inside, wrote (c .before .before) .0)
 
 add-i : tie.Need-add-i Inv-loop μ-loop
 add-i c = omega arith
