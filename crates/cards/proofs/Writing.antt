@@ -6,31 +6,19 @@ use mathlib.Core.Bool.{true}
 use mathlib.Core.List.{List, [], _∷_, _++_, map, append-assoc, append-nil}
 use native.Mathlib.Nat.{sub-zero}
 use native.Mathlib.Omega.{arith}
-use lib.ListN.{length, getD, take, drop, set, length-append, length-drop, take-append-drop, drop-of-length-le}
-use lib.Seq.{length-take-le, take-all, drop-drop, drop-append-add, getD-take}
+use lib.ListN.{length, getD, take, drop, set, length-append, length-drop, take-append-drop}
+use lib.Seq.{length-take-le, drop-drop, drop-append-add, getD-take}
 use Rattle.model.specs.declared.Code.{Code}
 use Rattle.model.specs.Words.{writtenOver}
 use Rattle.model.specs.Codes.{packed}
 use Rattle.model.specs.Rosters.{wordsOfPerson, rosterWords}
 use Rattle.model.specs.Cards.{entrySize, entriesFill, entries, personOfEntry}
 use Rattle.laws.proofs.Tests.{passed}
-use Rattle.laws.proofs.Lists.{length-written, take-written}
+use Rattle.laws.proofs.Lists.{length-written, take-written, rest-written}
 use Rattle.cards.specs.People.{personIn, spelledOnly, readable}
 use Rattle.cards.proofs.Places.{cut-part}
 
 -- ---- lent memory that is written in parts
-
--- the part from a place on, written from its beginning, and put back
-pub rest-written : (at : ℕ) (words new : List ℕ) → at ≤ length words
-    → take at words ++ (writtenOver new (take (length words - at) (drop at words)) ++ drop (length words - at) (drop at words))
-    ≡ writtenOver (take at words ++ new) words
-unfolding writtenOver
-rest-written at words new h =
-    let k = length words - at in
-    let full : take k (drop at words) ≡ drop at words = take-all k (drop at words) (omega (arith, length-drop at words)) in
-    let none : drop k (drop at words) ≡ [] = drop-of-length-le (drop at words) {i = k} (omega (arith, length-drop at words)) in
-    let n : length (take at words ++ new) ≡ at + length new = length-append (take at words) new ∙ omega (arith, length-take-le at words h) in
-    rw (full, none, n, append-nil, drop-drop (length new) at words) (sym (append-assoc (take at words) new (drop (at + length new) words)))
 
 -- what is written over a part of it alone is written over the whole
 pub written-twice : (xs ys words : List ℕ) → writtenOver (xs ++ ys) (writtenOver xs words) ≡ writtenOver (xs ++ ys) words

@@ -7,7 +7,8 @@ use native.Mathlib.Nat.{zero-add, add-zero, add-suc, suc-add, add-sub-of-le}
 use native.Mathlib.Omega.{arith}
 use borrow.Author.Tests.{ltb-true, ltb-false, lt-ltb, le-ltb}
 use lib.Dec.{ltb}
-use lib.ListN.{length, getD, length-set}
+use lib.ListN.{length, getD, take, length-set}
+use lib.Seq.{take-append-le}
 use Rattle.model.specs.declared.Command.{Command}
 use Rattle.model.specs.Words.{_when_else_, any, same}
 use Rattle.model.specs.Forms.{lose, gain, act}
@@ -15,6 +16,10 @@ use Rattle.model.specs.Listing.{Row, fires, moved, put, tried, expanded, listed
 use Rattle.laws.proofs.Tests.{by-test}
 use Rattle.laws.proofs.Lists.{Sized}
 use Rattle.laws.proofs.Listing.{Grown, grown-refl, grown-trans, expanded-grows}
+
+-- the first rows of what has grown
+pub grown-first : {rows more : List Row} → Grown rows more → (n : ℕ) → n ≤ length rows → take n more ≡ take n rows
+grown-first {rows} g n h = ap (take n) (g .is) ∙ take-append-le n rows (g .tail) h
 
 module _ (commands : List Command) (kind : ℕ) where
   -- one row is gone through, if it is listed

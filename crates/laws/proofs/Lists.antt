@@ -9,7 +9,7 @@ use native.Mathlib.Omega.{arith, by-contra}
 use native.Mathlib.Nat.{suc-add, zero-mul, suc-mul, add-comm, le-antisymm, zero-add, add-zero, add-suc, add-assoc, add-sub-of-le}
 use borrow.Author.Tests.{eqb-true, eq-eqb, lt-ltb}
 use lib.Dec.{eqb, ltb, leb·suc-suc}
-use lib.ListN.{length, getD, take, drop, set, length-append, length-drop, length-set, take-append-drop, List·getD-append}
+use lib.ListN.{length, getD, take, drop, set, length-append, length-drop, length-set, take-append-drop, drop-of-length-le, List·getD-append}
 use lib.Seq.{take-suc, drop-cons, take-add, drop-drop, take-at, drop-at, take-append-seam, drop-append-seam, getD-take, getD-drop, set-append-seam, append-snoc, map-set-same, take-all, take-append-add, drop-append-add, take-nil, set-append-left, length-take-le, take-length, take-set-lt, drop-set-lt, getD-append-add, length-paste-head, paste}
 use Rattle.model.specs.Words.{_when_else_, all, any, those, firstPlace, joined, groups, writtenOver, numbersFrom, same, allDiffer}
 use Rattle.laws.proofs.Tests.{by-test, never-both, not-passed, same-test, and-iff, or-true, left-or, right-or, passed}
@@ -467,6 +467,17 @@ module _ {A : Type 0} where
       ap (λ (r : List A). new ++ r)
       (ap (λ (n : ℕ). drop n (mid ++ drop (length mid) old)) (sym e) ∙ drop-append-add mid (drop (length mid) old) k
       ∙ drop-drop k (length mid) old ∙ ap (λ (n : ℕ). drop n old) e)
+
+  -- the rest from a place on, lent on and written from its beginning, and back
+  pub rest-written : (at : ℕ) (old new : List A) → at ≤ length old
+      → take at old ++ (writtenOver new (take (length old - at) (drop at old)) ++ drop (length old - at) (drop at old)) ≡ writtenOver (take at old ++ new) old
+  unfolding writtenOver
+  rest-written at old new l =
+      let k = length old - at in
+      let full : take k (drop at old) ≡ drop at old = take-all k (drop at old) (omega (arith, length-drop at old)) in
+      let none : drop k (drop at old) ≡ [] = drop-of-length-le (drop at old) {i = k} (omega (arith, length-drop at old)) in
+      let n : length (take at old ++ new) ≡ at + length new = length-append (take at old) new ∙ omega (arith, length-take-le at old l) in
+      rw (full, none, n, append-nil, drop-drop (length new) at old) (sym (append-assoc (take at old) new (drop (at + length new) old)))
 
 -- ---- numbers in a row
 

@@ -3,44 +3,20 @@
 use Prim.Native.Nat.{ℕ, _+_, _*_, _-_, _≤_, _<_}
 use mathlib.Core.Path.{_≡_, sym, ap, _∙_}
 use mathlib.Core.Bool.{true, false}
-use mathlib.Core.List.{List, [], _∷_, _++_, append-assoc, append-nil}
-use native.Mathlib.Nat.{add-sub-of-le}
+use mathlib.Core.List.{List, [], _∷_, _++_, append-nil}
 use native.Mathlib.Omega.{arith}
 use borrow.Author.Tests.{ltb-true, lt-ltb}
 use lib.Dec.{ltb}
-use lib.ListN.{length, take, drop, length-append, length-drop, take-append-drop, drop-of-length-le}
-use lib.Seq.{length-take-le, take-all, take-append-le, take-append-add, drop-append-add, drop-drop}
+use lib.ListN.{length, take, drop, length-append}
+use lib.Seq.{take-all, take-append-le, take-append-add}
 use Rattle.model.specs.declared.Command.{Command}
 use Rattle.model.specs.Words.{any, same, groups, joined, writtenOver}
 use Rattle.model.specs.Listing.{Row, fires, moved, put, tried}
 use Rattle.laws.proofs.Tests.{same-test}
-use Rattle.laws.proofs.Lists.{Sized, length-groups, joined-groups, joined-append, groups-joined}
+use Rattle.laws.proofs.Lists.{Sized, length-groups, joined-groups, joined-append, groups-joined, written-own, written-again}
 use Rattle.laws.proofs.Listing.{Grown, grown-longer}
+use Rattle.laws.proofs.Budgets.{grown-first}
 use Rattle.listing.specs.Searches.{Lists}
-
--- ---- lent memory
-
--- what is written over again by as much or more is not seen any more
-pub written-again : (a b old : List ℕ) → length a ≤ length b → writtenOver b (writtenOver a old) ≡ writtenOver b old
-unfolding writtenOver
-written-again a b old h =
-    let k = length b - length a in
-    let e : length a + k ≡ length b = add-sub-of-le h in
-    let left : drop (length a + k) (a ++ drop (length a) old) ≡ drop (length a + k) old =
-    drop-append-add a (drop (length a) old) k ∙ drop-drop k (length a) old in
-    rw e at (ap (λ (r : List ℕ). b ++ r) left)
-
--- the rest that was lent on and written comes back
-pub rest-written : (at : ℕ) (table new : List ℕ) → at ≤ length table
-    → take at table ++ (writtenOver new (take (length table - at) (drop at table)) ++ drop (length table - at) (drop at table))
-    ≡ writtenOver (take at table ++ new) table
-unfolding writtenOver
-rest-written at table new h =
-    let k = length table - at in
-    let full : take k (drop at table) ≡ drop at table = take-all k (drop at table) (omega (arith, length-drop at table)) in
-    let none : drop k (drop at table) ≡ [] = drop-of-length-le (drop at table) {i = k} (omega (arith, length-drop at table)) in
-    let n : length (take at table ++ new) ≡ at + length new = length-append (take at table) new ∙ omega (arith, length-take-le at table h) in
-    rw (full, none, n, append-nil, drop-drop (length new) at table) (sym (append-assoc (take at table) new (drop (at + length new) table)))
 
 -- ---- the exits of a step: `rows` are those that the table holds
 
@@ -65,15 +41,11 @@ module _ (budget n : ℕ) (table : List ℕ) (fits : n * 8 ≤ length table) (un
   held-rows : joined (take budget (groups 8 n table)) ≡ take (n * 8) table
   held-rows = ap joined (take-all budget (groups 8 n table) (omega (arith, length-groups 8 n table))) ∙ joined-groups 8 n table
 
-  held-over : writtenOver (take (n * 8) table) table ≡ table
-  unfolding writtenOver
-  held-over = rw (length-take-le (n * 8) table fits) (take-append-drop (n * 8) table)
-
   -- nothing new
   pub lists-same : Lists (groups 8 n table) budget table n table
   lists-same = record {
     counted = omega (arith, length-groups 8 n table);
-    written = sym (ap (λ (new : List ℕ). writtenOver new table) held-rows ∙ held-over);
+    written = sym (ap (λ (new : List ℕ). writtenOver new table) held-rows ∙ written-own (n * 8) table fits);
   }
 
   -- a new row, and room for it
@@ -96,7 +68,7 @@ module _ (budget n : ℕ) (table : List ℕ) (fits : n * 8 ≤ length table) (un
       let first : take budget (rows ++ new ∷ []) ≡ take budget rows = take-append-le budget rows (new ∷ []) (omega (arith, length-groups 8 n table)) in
       record {
         counted = omega arith;
-        written = sym (ap (λ (w : List ℕ). writtenOver w table) (ap joined first ∙ held-rows) ∙ held-over);
+        written = sym (ap (λ (w : List ℕ). writtenOver w table) (ap joined first ∙ held-rows) ∙ written-own (n * 8) table fits);
       }
 
 -- ---- a search that goes on
@@ -124,14 +96,14 @@ module _ (budget : ℕ) (old : List ℕ) where
       rw (whole, first, joined-append) (omega (arith, length-append (joined rows) (joined (take k (g .tail))))) in
       record {
         counted = next .counted;
-        written = next .written ∙ rw (has .written) (written-again (joined (take budget rows)) (joined (take budget more)) old longer);
+        written = next .written ∙ rw (has .written) (written-again (joined (take budget more)) (joined (take budget rows)) old longer);
       }
 
   -- a search that was cut has what a longer one has
   pub lists-cut : {rows more : List Row} {n : ℕ} {table : List ℕ} → Lists rows budget old n table → budget < n → Grown rows more
       → Lists more budget old n table
   lists-cut {rows} {more} has cut g =
-      let first : take budget more ≡ take budget rows = ap (take budget) (g .is) ∙ take-append-le budget rows (g .tail) (omega arith) in
+      let first = grown-first g budget (omega arith) in
       record { counted = omega (arith, grown-longer g); written = has .written ∙ ap (λ (r : List Row). writtenOver (joined r) old) (sym first) }
 
   -- the count says exactly whether the rows are more than the budget

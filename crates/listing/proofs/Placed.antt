@@ -9,16 +9,16 @@ use Rattle.model.specs.declared.Command.{Command}
 use Rattle.model.specs.Schemes.{noCommand, commandIsValid, schemeIsValid}
 use Rattle.laws.proofs.Tests.{passed}
 use Rattle.laws.proofs.Lists.{all-at, at-all}
+use Rattle.laws.proofs.Checks.{valid-command}
 use Rattle.schemes.specs.declared.Loaded.{Loaded}
 use Rattle.schemes.specs.Loads.{listed, schemeIn}
 use Rattle.schemes.proofs.Loads.{listed-length, listed-at}
 use Rattle.listing.specs.Searches.{isInRow, Ready}
 
 valid-in-row : (types kinds rights : ℕ) (c : Command) → types ≤ 8 → commandIsValid types kinds rights c ≡ true → isInRow c ≡ true
-unfolding commandIsValid
 valid-in-row types kinds rights c few h =
-    let t = (simp passed at h) .0 .0 .0 .0 .0 .0 in
-    simp passed (omega (arith, t .0 .1), omega (arith, t .1))
+    let v = valid-command types kinds rights c h in
+    simp passed (omega arith, omega arith)
 
 pub valid-ready : (l : Loaded) → length (l .commands) ≡ 64 → schemeIsValid (schemeIn l) ≡ true → Ready l
 unfolding schemeIsValid

@@ -6,7 +6,8 @@ use native.Mathlib.Omega.{arith}
 use lib.ListN.{length}
 use borrow.Rule.Slice.PartMut.{putMid}
 use Rattle.model.specs.Words.{groups}
-use Rattle.listing.proofs.Listed.{rest-written, put-known, put-new, lists-same, lists-new, lists-cut-off}
+use Rattle.laws.proofs.Lists.{rest-written}
+use Rattle.listing.proofs.Listed.{put-known, put-new, lists-same, lists-new, lists-cut-off}
 use borrow.Author.Needs.{needs}
 use Rattle.listing.proofs.search.put.Statement.{statement}
 use Rattle.listing.proofs.search.put.Tie as tie
