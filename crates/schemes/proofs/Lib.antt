@@ -1,1 +1,3 @@
+-- The laws behind the proofs of this crate.
+pub mod Rules
 pub mod Loads

@@ -1,9 +1,10 @@
--- The scheme that a loaded one stands for.
+-- The scheme that a loaded one stands for, and how one is loaded, command by command.
 -- Assumes nothing.
-use Prim.Native.Nat.{_-_}
+use Prim.Native.Nat.{ℕ, _+_, _-_}
 use mathlib.Core.List.{List, _++_}
-use lib.ListN.{take, replicate}
+use lib.ListN.{length, take, set, replicate}
 use Rattle.model.specs.declared.Command.{Command}
+use Rattle.model.specs.Words.{writtenOver}
 use Rattle.model.specs.Sizes.{mostCommands}
 use Rattle.model.specs.Schemes.{Scheme, noCommand}
 use Rattle.schemes.specs.declared.Loaded.{Loaded}
@@ -14,3 +15,21 @@ listed l = take (l .count) (l .commands) ++ replicate (l .count - mostCommands) 
 
 abbrev pub schemeIn : Loaded → Scheme
 schemeIn l = record { types = l .types; kinds = l .kinds; rights = l .rights; commands = listed l }
+
+-- a scheme with these counts and no command yet
+unfoldable pub unloaded : ℕ → ℕ → ℕ → Loaded
+unloaded types kinds rights = record { types = types; kinds = kinds; rights = rights; count = 0; commands = replicate mostCommands noCommand }
+
+-- one command more, kept in its place; past the last place it is counted and not kept
+unfoldable pub pushed : Loaded → Command → Loaded
+pushed l c = record { types = l .types; kinds = l .kinds; rights = l .rights; count = l .count + 1; commands = set (l .commands) (l .count) c }
+
+-- a whole scheme, loaded
+unfoldable pub loadedFrom : Scheme → Loaded
+loadedFrom s = record {
+  types = s .types;
+  kinds = s .kinds;
+  rights = s .rights;
+  count = length (s .commands);
+  commands = writtenOver (take mostCommands (s .commands)) (replicate mostCommands noCommand);
+}
