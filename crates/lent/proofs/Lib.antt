@@ -1,0 +1,2 @@
+-- The rules and laws behind the proofs of this crate, and behind every door of another.
+pub mod Walk
