@@ -57,8 +57,8 @@ val = LL.val T.the-type T′.the-laws
 abbrev pub vals : Command → List Val
 vals = LL.vals T.the-type T′.the-laws
 
-pub typed : {M : Type 1} (𝓤 : URA M) (H : Heap 𝓤) (A : Atoms 𝓤) (W : Given 𝓤 H A) (c : Command) → Is T.the-row c (vals c) → Holds (hasTy T′.mir (val c)) × WT (val c)
-typed 𝓤 H A W c g = LL.lawful T.the-type T′.the-laws 𝓤 H A W .typed c (vals c) g .0
+pub typed : {M : Type 1} (𝓤 : URA M) (H : Heap 𝓤) (A : Atoms 𝓤) (W : Given 𝓤 H A) (c : Command) (u : Val) → Is T.the-row c (u ∷ []) → Holds (hasTy T′.mir u) × WT u
+typed 𝓤 H A W c u g = LL.lawful T.the-type T′.the-laws 𝓤 H A W .typed c (u ∷ []) g .0
 
 -- what is kept of a `&κ [Command]` while the share q′ of its command i is out
 abbrev pub Aside : Lft → Share → Share → RefT (List Command) → List Val → ℕ → Fml
@@ -108,14 +108,14 @@ module _ {M : Type 1} {𝓤 : URA M} {H : Heap 𝓤} {A : Atoms 𝓤} {K : Type 
       -- [the cell; what it owns; the others; the open borrow; obs; auth]
       move t (1 ∷ []) $ drop t $ move t (3 ∷ 4 ∷ []) $ fjoin t $ move t (3 ∷ 0 ∷ []) $ fjoin t $ move t (2 ∷ 0 ∷ []) $ fjoin t $ move t (1 ∷ 0 ∷ []) $ s))
 
-  pub shuts-place : K → Soaks G → {κ : Lft} {q : Share} (γ : GName) (b o : ℕ) (ys : List Command) (n i : ℕ) (c : Command) → length ys ≡ n → Room T.the-row n → Is T.the-row c (vals c) → i < length ys
+  pub shuts-place : K → Soaks G → {κ : Lft} {q : Share} (γ : GName) (b o : ℕ) (ys : List Command) (n i : ℕ) (c : Command) (vs : List Val) → length ys ≡ n → Room T.the-row n → Is T.the-row c vs → i < length ys
       → Step K W (‵ (flft κ q) ∷ ‵ (MutSlice (named 0) κ T.the-row .own (at γ b o (set ys i c)) (sliceVal (b, o) n ∷ [])) ∷ Γ) G
-      (‵ (cellAt fullShare (T.the-row .mir) (vals c) b (place 16 o i)) ∷ ‵ (Beside κ q γ b o ys i) ∷ Γ) G
-  shuts-place t z γ b o ys n i c len room g l = step (λ s.
+      (‵ (cellAt fullShare (T.the-row .mir) vs b (place 16 o i)) ∷ ‵ (Beside κ q γ b o ys i) ∷ Γ) G
+  shuts-place t z γ b o ys n i c vs len room g l = step (λ s.
       move t (1 ∷ []) $ fsplit t $ move t (1 ∷ []) $ fsplit t $ move t (1 ∷ []) $ fsplit t $
       owned t T.the-row (Is T.the-row) (LL.makes T.the-type T′.the-plain 𝓤 H A) c _ g $
       -- [what c owns; obs; auth; the open borrow; the others; the cell]
-      move t (5 ∷ 0 ∷ 4 ∷ 3 ∷ []) $ elem-put t T.the-row fullShare ys i c (vals c) b o l $ closes-slice t z T.the-row ys (set ys i c) (length-set ys i c) b o $ fjoin t $
+      move t (5 ∷ 0 ∷ 4 ∷ 3 ∷ []) $ elem-put t T.the-row fullShare ys i c vs b o l $ closes-slice t z T.the-row ys (set ys i c) (length-set ys i c) b o $ fjoin t $
       pureI t (at-slice T.the-row (at γ b o (set ys i c)) (sliceVal (b, o) n ∷ [])) (tt, (tt, tt)) (ap (λ (m : ℕ). sliceVal (b, o) m ∷ []) (sym same), subst (Room T.the-row) (sym same) room) $ fjoin t $ move t (1 ∷ 0 ∷ []) $ s)
     where
       same : length (set ys i c) ≡ n

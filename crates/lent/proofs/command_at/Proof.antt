@@ -76,9 +76,9 @@ module _ {M : Type 1} (𝓤 : URA M) (H : Heap 𝓤) (A : Atoms 𝓤) (W : Given
       assigns ! (bin ! (load ! (from ! (fld ! refl (stop !))) (look-in ! 12 (sub ! 0 refl (whole !)))) (load ! (from ! (stop !)) (look ! 6 refl)) tt) (from ! (stop !)) (init ! 4 refl (tt, tt)) $
       rewrite ! 4 (λ (p : ℕ). ‵ (fat fullShare tyPtr l₅ 0 (vptr (ptr x .0) p))) (sym (place-is 16 (ptr x .1) i)) refl $
       opens-elem ! tt x (sv ∷ []) i l (λ q′ g.
-      assigns ! (of-opd ! (load ! (from ! (hop ! (look ! 4 refl) (stop !))) (look-raw ! 0 refl))) (from ! (stop !)) (init ! 2 refl (typed 𝓤 H A W c g)) $ shuts-elem ! tt x (sv ∷ []) i l q′ $
-      assigns ! (of-opd ! (load ! (from ! (stop !)) (look ! 2 refl))) (from ! (stop !)) (init ! 8 refl (typed 𝓤 H A W c g)) $
-      assigns ! (of-opd ! (load ! (from ! (stop !)) (look ! 8 refl))) (from ! (stop !)) (init ! 14 refl (typed 𝓤 H A W c g)) $
+      assigns ! (of-opd ! (load ! (from ! (hop ! (look ! 4 refl) (stop !))) (look-raw ! 0 refl))) (from ! (stop !)) (init ! 2 refl (typed 𝓤 H A W c (val c) g)) $ shuts-elem ! tt x (sv ∷ []) i l q′ $
+      assigns ! (of-opd ! (load ! (from ! (stop !)) (look ! 2 refl))) (from ! (stop !)) (init ! 8 refl (typed 𝓤 H A W c (val c) g)) $
+      assigns ! (of-opd ! (load ! (from ! (stop !)) (look ! 8 refl))) (from ! (stop !)) (init ! 14 refl (typed 𝓤 H A W c (val c) g)) $
       returns ! (look ! 14 refl) $ forget ! 2 refl $ forget ! 4 refl $ forget ! 6 refl $ forget ! 8 refl $ forget ! 10 refl $ forget ! 12 refl $ forget ! 14 refl $
       move ! (14 ∷ 15 ∷ 12 ∷ 13 ∷ 10 ∷ 11 ∷ 8 ∷ 9 ∷ 6 ∷ 7 ∷ 4 ∷ 5 ∷ 2 ∷ 3 ∷ []) $ free1 ! $ free1 ! $ free1 ! $ free1 ! $ free1 ! $ free1 ! $ free1 ! $ free0 ! $ keep ! (0 ∷ []) $ by ! (exits g)))))))))
     where

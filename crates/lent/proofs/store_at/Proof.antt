@@ -71,13 +71,13 @@ module _ {M : Type 1} (𝓤 : URA M) (H : Heap 𝓤) (A : Atoms 𝓤) (W : Given
   walk C Λ room small g l =
       qed W ((‵ (flft κ q) ⊛ ‵ ftrue) ∷ ‵ (owns (MutSlice (named 0) κ T.the-row ∷ usize ∷ T.the-row ∷ []) args mach) ∷ []) ∵ enter ! C Λ code.function (sv ∷ vint w64 i ∷ val c ∷ []) _ $
       alloc1 ! (λ l₀. alloc1 ! (λ l₁. alloc1 ! (λ l₂. alloc1 ! (λ l₃. alloc1 ! (λ l₄. alloc1 ! (λ l₅. alloc0 ! $ params1 ! $
-      pass1 ! (init ! 8 refl (tt, (tt, (record { fits = room .0 }, tt)))) $ pass1 ! (init ! 6 refl (tt, record { fits = small })) $ pass1 ! (init ! 4 refl (typed 𝓤 H A W c g)) $ pass0 ! $
+      pass1 ! (init ! 8 refl (tt, (tt, (record { fits = room .0 }, tt)))) $ pass1 ! (init ! 6 refl (tt, record { fits = small })) $ pass1 ! (init ! 4 refl (typed 𝓤 H A W c (val c) g)) $ pass0 ! $
       move ! (13 ∷ []) $ fsplit ! $ move ! (1 ∷ []) $ drop ! $ move ! (13 ∷ []) $ split ! $ move ! (1 ∷ []) $ drop ! $
       -- [the token; what the list owns; the locals: j at 2 + 2 · (5 − j)]
       assigns ! (bin ! (load ! (from ! (stop !)) (look ! 8 refl)) (lit ! tt) (record { fits = scaled })) (from ! (stop !)) (init ! 4 refl (tt, record { fits = scaled })) $
       assigns ! (bin ! (load ! (from ! (fld ! refl (stop !))) (look-in ! 10 (sub ! 0 refl (whole !)))) (load ! (from ! (stop !)) (look ! 4 refl)) tt) (from ! (stop !)) (init ! 2 refl (tt, tt)) $
       rewrite ! 2 (λ (p : ℕ). ‵ (fat fullShare tyPtr l₅ 0 (vptr b p))) (sym (place-is 16 o i)) refl $
-      opens-place ! tt γ b o ys (sv ∷ []) i l $ assigns ! (of-opd ! (load ! (from ! (stop !)) (look ! 6 refl))) (from ! (hop ! (look ! 2 refl) (stop !))) (store-raw ! 0 refl (typed 𝓤 H A W c g)) $ shuts-place ! tt γ b o ys n i c refl room g l $
+      opens-place ! tt γ b o ys (sv ∷ []) i l $ assigns ! (of-opd ! (load ! (from ! (stop !)) (look ! 6 refl))) (from ! (hop ! (look ! 2 refl) (stop !))) (store-raw ! 0 refl (typed 𝓤 H A W c (val c) g)) $ shuts-place ! tt γ b o ys n i c (vals c) refl room g l $
       assigns ! (of-opd ! (unit-lit !)) (from ! (stop !)) (init ! 12 refl (tt, tt)) $
       returns ! (look ! 12 refl) $ forget ! 2 refl $ forget ! 4 refl $ forget ! 6 refl $ forget ! 8 refl $ forget ! 10 refl $ forget ! 12 refl $
       move ! (12 ∷ 13 ∷ 10 ∷ 11 ∷ 8 ∷ 9 ∷ 6 ∷ 7 ∷ 4 ∷ 5 ∷ 2 ∷ 3 ∷ []) $ free1 ! $ free1 ! $ free1 ! $ free1 ! $ free1 ! $ free1 ! $ free0 ! $ by ! exits))))))
