@@ -11,7 +11,6 @@ use Rattle.model.specs.declared.Command.{Command}
 use Rattle.model.specs.Words.{writtenOver}
 use Rattle.model.specs.Schemes.{Scheme, noCommand, commandIn}
 use Rattle.laws.proofs.Lists.{length-written, written-inside, written-snoc}
-use Rattle.schemes.specs.declared.Loaded.{Loaded}
 use Rattle.schemes.specs.Loads.{listed, unloaded, pushed, loadedFrom}
 use Rattle.schemes.proofs.Loads.{loaded-none, loaded-stands, loaded-pushed}
 use Rattle.lent.specs.Loads.{loadedOf}

@@ -1,5 +1,5 @@
 -- The parameters of a function that hands them on to another: `fn outer(x: X, P..) -> R { .. inner(y, p..) }`, for any list P.. of a `&[B]`, a `&mut [B]` and a plain B. Each law is by induction on that list.
---     Par n            a parameter, of n lifetimes: `lent j ok B` is a `&'j [B]`, `mutable j ok B` a `&'j mut [B]`, `value B` a plain B. So `k: Kinds, key: &[u8], table: &mut [u32]` is `value kinds ∷ lent 0 tt (num w8) ∷ mutable 1 tt (num w32) ∷ []`, at n = 2
+--     Par n            a parameter, of n lifetimes: `lent j ok B` is a `&'j [B]`, `mutable j ok B` a `&'j mut [B]`, `value B` a plain B. So `types: usize, card: &[u8], roster: &mut [u32]` is `value size ∷ lent 0 tt byte ∷ mutable 1 tt word ∷ []`, at n = 2
 --     slots of name    the parameters' slots, in a signature in which `of` picks the n lifetimes, and 'j has the number `name j`
 --     Passing n        the two functions' lifetimes, and that a parameter's type is the same in both but for the lifetimes' numbers (`Same`, `alike`)
 --     down, up, seen   the arguments, what is bound at exit, and what is seen there: from the outer function's to the inner's, and back
@@ -62,7 +62,8 @@ pub record Copied (n : ℕ) : Type 2 where
   pub ty : (ℕ → ℕ) → Ty
   pub val : (name : ℕ → ℕ) (κs : Lfts n) → type name κs .Denot → Val
   pub tells : (name : ℕ → ℕ) (κs : Lfts n) → Tells (type name κs) (Is (type name κs)) (λ b. val name κs b ∷ [])
-  pub typed : (M : Type 1) (𝓤 : URA M) (H : Heap 𝓤) (A : Atoms 𝓤) (W : Given 𝓤 H A) (name : ℕ → ℕ) (κs : Lfts n) (b : type name κs .Denot) → Is (type name κs) b (val name κs b ∷ []) → Holds (hasTy (ty name) (val name κs b)) × WT (val name κs b)
+  pub typed : (M : Type 1) (𝓤 : URA M) (H : Heap 𝓤) (A : Atoms 𝓤) (W : Given 𝓤 H A) (name : ℕ → ℕ) (κs : Lfts n) (b : type name κs .Denot) → Is (type name κs) b (val name κs b ∷ [])
+      → Holds (hasTy (ty name) (val name κs b)) × WT (val name κs b)
   pub alike : (name name′ : ℕ → ℕ) (κs : Lfts n) → Same (type name κs) (type name′ κs)
 
 pub data Par (n : ℕ) : Type 2 where
@@ -78,7 +79,14 @@ refTy B = tyRef erased mut (pointee (B .type .written))
 
 module _ {n : ℕ} where
   abbrev pub value : Row → Par n
-  value B = copied (record { type = λ _ _. B .type; ty = λ _. B .ty; val = λ _ _. B .val; tells = λ _ _. B .tells; typed = λ M 𝓤 H A W _ _ b g. B .typed M 𝓤 H A W b (B .val b) g; alike = λ _ _ _. same-self (B .type) })
+  value B = copied (record {
+    type = λ _ _. B .type;
+    ty = λ _. B .ty;
+    val = λ _ _. B .val;
+    tells = λ _ _. B .tells;
+    typed = λ M 𝓤 H A W _ _ b g. B .typed M 𝓤 H A W b (B .val b) g;
+    alike = λ _ _ _. same-self (B .type);
+  })
 
   abbrev pub lent : (j : ℕ) → Within n j → Row → Par n
   lent j ok B = copied (record {
@@ -175,11 +183,13 @@ module _ {n : ℕ} (P : Passing n) where
   owns-down [] a = refl
   owns-down (p ∷ ps) a = λ i. fsep (P .same p .own (a .0) (val (P .name) p (P .of (P .κs)) (a .0) ∷ []) i) (owns-down ps (a .1) i)
 
-  pub lasts-up : (ps : List (Par n)) (a : Denots (Ds ps)) (ws : Fins′ ps a) → lastsOf (P .κs′) (Is′ ps) (all yes (Is′ ps)) (down ps a) ws ≡ lastsOf (P .κs) (Os ps) (all yes (Os ps)) a (up ps a ws)
+  pub lasts-up : (ps : List (Par n)) (a : Denots (Ds ps)) (ws : Fins′ ps a)
+      → lastsOf (P .κs′) (Is′ ps) (all yes (Is′ ps)) (down ps a) ws ≡ lastsOf (P .κs) (Os ps) (all yes (Os ps)) a (up ps a ws)
   lasts-up [] a ws = refl
   lasts-up (p ∷ ps) a ws = λ i. fsep (P .same p .lefts (a .0) (ws .0) i) (lasts-up ps (a .1) (ws .1) i)
 
-  pub seen-up : (ps : List (Par n)) (a : Denots (Ds ps)) (ws : Fins′ ps a) → outs (P .κs′) (Is′ ps) (all yes (Is′ ps)) (down ps a) ws ≡ seen ps (outs (P .κs) (Os ps) (all yes (Os ps)) a (up ps a ws))
+  pub seen-up : (ps : List (Par n)) (a : Denots (Ds ps)) (ws : Fins′ ps a)
+      → outs (P .κs′) (Is′ ps) (all yes (Is′ ps)) (down ps a) ws ≡ seen ps (outs (P .κs) (Os ps) (all yes (Os ps)) a (up ps a ws))
   seen-up [] a ws = refl
   seen-up (p ∷ ps) a ws = λ i. (P .same p .sees (a .0) (ws .0) i, seen-up ps (a .1) (ws .1) i)
 
@@ -202,7 +212,8 @@ module _ {n : ℕ} where
   lends i k [] rest = rest
   lends i k (copied p ∷ ps) rest = lends (suc i) k ps rest
   lends i k (mutable j ok B ∷ ps) rest =
-      seq (assign (place k []) (addrOf (place i (field 0 ∷ deref (B .ty) ∷ [])))) (seq (assign (place (suc k) []) (aggregate (copy (place k []) ∷ copy (place i (field 1 ∷ [])) ∷ []))) (lends (suc i) (suc (suc k)) ps rest))
+      seq (assign (place k []) (addrOf (place i (field 0 ∷ deref (B .ty) ∷ []))))
+      (seq (assign (place (suc k) []) (aggregate (copy (place k []) ∷ copy (place i (field 1 ∷ [])) ∷ []))) (lends (suc i) (suc (suc k)) ps rest))
 
   abbrev pub ops : ℕ → ℕ → List (Par n) → List Operand
   ops i k [] = []
@@ -222,7 +233,8 @@ module _ {M : Type 1} (𝓤 : URA M) (H : Heap 𝓤) (E : Env 𝓤 H) where
   pub onward : {Es : Env 𝓤 H} {e : Ty × ℕ} (i : ℕ) → suffix i E ≡ e ∷ Es → suffix (suc i) E ≡ Es
   onward i at-i = from-suc i E ∙ ap tl′ at-i
 
-  onward-past : {n : ℕ} (name : ℕ → ℕ) (ps : List (Par n)) (xs : List Ty) (bs : List ℕ) (i : ℕ) → suffix i E ≡ EnvOf 𝓤 H (tys name ps xs) bs → suffix (past ps i) E ≡ EnvOf 𝓤 H xs (rest ps bs)
+  onward-past : {n : ℕ} (name : ℕ → ℕ) (ps : List (Par n)) (xs : List Ty) (bs : List ℕ) (i : ℕ) → suffix i E ≡ EnvOf 𝓤 H (tys name ps xs) bs
+      → suffix (past ps i) E ≡ EnvOf 𝓤 H xs (rest ps bs)
   onward-past name [] xs bs i at-i = at-i
   onward-past name (p ∷ ps) xs bs i at-i = onward-past name ps xs (tl bs) (suc i) (onward i at-i)
 
@@ -240,17 +252,21 @@ module _ {M : Type 1} (𝓤 : URA M) (H : Heap 𝓤) {n : ℕ} (name : ℕ → �
 -- ---- rules that the walk needs beside `Types/Run.antt`'s
 module _ {M : Type 1} {𝓤 : URA M} {H : Heap 𝓤} {A : Atoms 𝓤} {W : Given 𝓤 H A} {Γ : List (Item 𝓤)} where
   -- a place in a local whose number is not written out
-  pub found : {E : Env 𝓤 H} {i : ℕ} {e : Ty × ℕ} {st : List PStep} {sp : Spot 𝓤 H} → getD E i (noLocal 𝓤 H) ≡ e → Walks (Go {0}) W Γ E (e .0, e .1, zero) st sp → Finds (Go {0}) W Γ E (place i st) sp
+  pub found : {E : Env 𝓤 H} {i : ℕ} {e : Ty × ℕ} {st : List PStep} {sp : Spot 𝓤 H} → getD E i (noLocal 𝓤 H) ≡ e → Walks (Go {0}) W Γ E (e .0, e .1, zero) st sp
+      → Finds (Go {0}) W Γ E (place i st) sp
   found {E} {st = st} at-i w = record { go = λ Kt h. subst (λ (l : Ty × ℕ). ent 𝓤 (⋆ 𝓤 H A Γ) (walk 𝓤 H E (l .0, l .1, zero) st Kt)) (sym at-i) (w .go Kt h) }
 
   -- operands that are read in a context arranged otherwise
-  read-in : {E : Env 𝓤 H} {xs : List Operand} {vs : List Val} {Γ′ : List (Item 𝓤)} → Opds (Go {0}) W Γ′ E xs vs → Sq W Γ (prop (⋆ 𝓤 H A Γ′)) → Sq W Γ′ (prop (⋆ 𝓤 H A Γ)) → Opds (Go {0}) W Γ E xs vs
+  read-in : {E : Env 𝓤 H} {xs : List Operand} {vs : List Val} {Γ′ : List (Item 𝓤)} → Opds (Go {0}) W Γ′ E xs vs → Sq W Γ (prop (⋆ 𝓤 H A Γ′)) → Sq W Γ′ (prop (⋆ 𝓤 H A Γ))
+      → Opds (Go {0}) W Γ E xs vs
   read-in {Γ′ = Γ′} os to back = record { go = λ Kt h. via 𝓤 (⋆ 𝓤 H A Γ′) (to .prf) (os .go Kt (via 𝓤 (⋆ 𝓤 H A Γ) (back .prf) h)) }
 
-  allocs-all : (τs : List Ty) (hs : List Home) {Kt : Env 𝓤 H → Goal 𝓤 H} → ((bs : List ℕ) → Sq W (raw (Fr 𝓤 H (EnvOf 𝓤 H τs bs)) ∷ Γ) (Kt (EnvOf 𝓤 H τs bs))) → Sq W Γ (allocs (locs τs hs) Kt)
+  allocs-all : (τs : List Ty) (hs : List Home) {Kt : Env 𝓤 H → Goal 𝓤 H} → ((bs : List ℕ) → Sq W (raw (Fr 𝓤 H (EnvOf 𝓤 H τs bs)) ∷ Γ) (Kt (EnvOf 𝓤 H τs bs)))
+      → Sq W Γ (allocs (locs τs hs) Kt)
   allocs-all τs hs {Kt} k = record {
     prf = alloc-all 𝓤 H τs hs (⋆ 𝓤 H A Γ) (λ E. aim 𝓤 H (Kt E))
-        (λ bs. via 𝓤 (sep 𝓤 (Fr 𝓤 H (EnvOf 𝓤 H τs bs)) (⋆ 𝓤 H A Γ)) (comm∗ 𝓤 (⋆ 𝓤 H A Γ) (Fr 𝓤 H (EnvOf 𝓤 H τs bs))) (via 𝓤 (⋆ 𝓤 H A (raw (Fr 𝓤 H (EnvOf 𝓤 H τs bs)) ∷ Γ)) (push 𝓤 H A (raw (Fr 𝓤 H (EnvOf 𝓤 H τs bs))) Γ) (k bs .prf)));
+        (λ bs. via 𝓤 (sep 𝓤 (Fr 𝓤 H (EnvOf 𝓤 H τs bs)) (⋆ 𝓤 H A Γ)) (comm∗ 𝓤 (⋆ 𝓤 H A Γ) (Fr 𝓤 H (EnvOf 𝓤 H τs bs)))
+        (via 𝓤 (⋆ 𝓤 H A (raw (Fr 𝓤 H (EnvOf 𝓤 H τs bs)) ∷ Γ)) (push 𝓤 H A (raw (Fr 𝓤 H (EnvOf 𝓤 H τs bs))) Γ) (k bs .prf)));
   }
 
   frees-all : {E : Env 𝓤 H} {P : SProp 𝓤} → Sq W Γ (prop P) → Sq W (raw (Fr 𝓤 H E) ∷ Γ) (frees E (prop P))
@@ -269,7 +285,8 @@ cell τ b v = ‵ (fat fullShare τ b zero v)
 
 -- ---- the parameters in memory
 module _ {M : Type 1} (𝓤 : URA M) (H : Heap 𝓤) (A : Atoms 𝓤) (W : Given 𝓤 H A) {n : ℕ} (P : Passing n) where
-  typed : (p : Par n) (b : row (P .name) p (P .of (P .κs)) .Denot) → Is (row (P .name) p (P .of (P .κs))) b (val (P .name) p (P .of (P .κs)) b ∷ []) → Holds (hasTy (ty (P .name) p) (val (P .name) p (P .of (P .κs)) b)) × WT (val (P .name) p (P .of (P .κs)) b)
+  typed : (p : Par n) (b : row (P .name) p (P .of (P .κs)) .Denot) → Is (row (P .name) p (P .of (P .κs))) b (val (P .name) p (P .of (P .κs)) b ∷ [])
+      → Holds (hasTy (ty (P .name) p) (val (P .name) p (P .of (P .κs)) b)) × WT (val (P .name) p (P .of (P .κs)) b)
   typed (copied p) b g = p .typed M 𝓤 H A W (P .name) (P .of (P .κs)) b g
   typed (mutable j ok B) b g = mut-slice-lawful 𝓤 H A W (named (P .name j)) (lftAt n j ok (P .of (P .κs))) (B .type) .typed b (slice-vals b) g .0
 
@@ -282,11 +299,14 @@ module _ {M : Type 1} (𝓤 : URA M) (H : Heap 𝓤) (A : Atoms 𝓤) (W : Given
   lent-out [] a cs = ‵ ftrue
   lent-out (copied p ∷ ps) a cs = lent-out ps (a .1) cs
   lent-out (mutable j ok B ∷ ps) a cs =
-      cell (refTy B) (hd 0 cs) (vptr (ptr (a .0) .0) (ptr (a .0) .1)) ⊛ cell (sliceTy (refTy B)) (hd 0 (tl cs)) (sliceVal (ptr (a .0)) (length (now (a .0)))) ⊛ lent-out ps (a .1) (tl (tl cs))
+      cell (refTy B) (hd 0 cs) (vptr (ptr (a .0) .0) (ptr (a .0) .1)) ⊛ cell (sliceTy (refTy B)) (hd 0 (tl cs)) (sliceVal (ptr (a .0)) (length (now (a .0))))
+      ⊛ lent-out ps (a .1) (tl (tl cs))
 
-  ins-rooms : (ps : List (Par n)) (a : Denots (Ds P ps)) (xs : List Ty) (bs : List ℕ) → ent 𝓤 (sep 𝓤 (mean 𝓤 H A (ins ps a bs)) (Rooms 𝓤 H (EnvOf 𝓤 H xs (rest ps bs)))) (Rooms 𝓤 H (EnvOf 𝓤 H (tys (P .name) ps xs) bs))
+  ins-rooms : (ps : List (Par n)) (a : Denots (Ds P ps)) (xs : List Ty) (bs : List ℕ)
+      → ent 𝓤 (sep 𝓤 (mean 𝓤 H A (ins ps a bs)) (Rooms 𝓤 H (EnvOf 𝓤 H xs (rest ps bs)))) (Rooms 𝓤 H (EnvOf 𝓤 H (tys (P .name) ps xs) bs))
   ins-rooms [] a xs bs = snd∗ 𝓤 (emp 𝓤) (Rooms 𝓤 H (EnvOf 𝓤 H xs bs))
-  ins-rooms (p ∷ ps) a xs bs = via 𝓤 _ (assoc∗ 𝓤 (H .at fullShare (ty (P .name) p) (hd 0 bs) zero (val (P .name) p (P .of (P .κs)) (a .0))) (mean 𝓤 H A (ins ps (a .1) (tl bs))) (Rooms 𝓤 H (EnvOf 𝓤 H xs (rest ps (tl bs))))) (mono∗ 𝓤 (W .laws .at-room (ty (P .name) p) (hd 0 bs) zero (val (P .name) p (P .of (P .κs)) (a .0))) (ins-rooms ps (a .1) xs (tl bs)))
+  ins-rooms (p ∷ ps) a xs bs = via 𝓤 _ (assoc∗ 𝓤 (H .at fullShare (ty (P .name) p) (hd 0 bs) zero (val (P .name) p (P .of (P .κs)) (a .0))) (mean 𝓤 H A (ins ps (a .1) (tl bs)))
+      (Rooms 𝓤 H (EnvOf 𝓤 H xs (rest ps (tl bs))))) (mono∗ 𝓤 (W .laws .at-room (ty (P .name) p) (hd 0 bs) zero (val (P .name) p (P .of (P .κs)) (a .0))) (ins-rooms ps (a .1) xs (tl bs)))
 
   pub out-rooms : (ps : List (Par n)) (a : Denots (Ds P ps)) (cs : List ℕ) → ent 𝓤 (mean 𝓤 H A (lent-out ps a cs)) (Rooms 𝓤 H (EnvOf 𝓤 H (again ps) cs))
   out-rooms [] a cs = id⊢ 𝓤 (emp 𝓤)
@@ -295,15 +315,19 @@ module _ {M : Type 1} (𝓤 : URA M) (H : Heap 𝓤) (A : Atoms 𝓤) (W : Given
 
   -- the arguments are stored
   stores : {Γ : List (Item 𝓤)} {G : Goal 𝓤 H} (ps : List (Par n)) (a : Denots (Ds P ps)) (xs : List Ty) (bs : List ℕ) → Are (Ds P ps) (Ises (Ds P ps)) a (vss P ps a)
-      → Sq W (ins ps a bs ∷ raw (Rooms 𝓤 H (EnvOf 𝓤 H xs (rest ps bs))) ∷ Γ) G → Sq W (raw (Rooms 𝓤 H (EnvOf 𝓤 H (tys (P .name) ps xs) bs)) ∷ Γ) (passes (EnvOf 𝓤 H (tys (P .name) ps xs) bs) (flat (Ds P ps) (vss P ps a)) G)
+      → Sq W (ins ps a bs ∷ raw (Rooms 𝓤 H (EnvOf 𝓤 H xs (rest ps bs))) ∷ Γ) G
+      → Sq W (raw (Rooms 𝓤 H (EnvOf 𝓤 H (tys (P .name) ps xs) bs)) ∷ Γ) (passes (EnvOf 𝓤 H (tys (P .name) ps xs) bs) (flat (Ds P ps) (vss P ps a)) G)
   stores [] a xs bs are s = pass0 ! $ nothing ! $ s
   stores (p ∷ ps) a xs bs are s =
-      use1 W (‵ (froom (ty (P .name) p) (hd 0 bs) zero) ⊛ raw (Rooms 𝓤 H (EnvOf 𝓤 H (tys (P .name) ps xs) (tl bs)))) (id⊢ 𝓤 _) $ split ! $ pass1 ! (init ! 0 refl (typed p (a .0) (are .0))) $ move ! (1 ∷ []) $
+      use1 W (‵ (froom (ty (P .name) p) (hd 0 bs) zero) ⊛ raw (Rooms 𝓤 H (EnvOf 𝓤 H (tys (P .name) ps xs) (tl bs)))) (id⊢ 𝓤 _) $ split ! $ pass1 ! (init ! 0 refl (typed p (a .0) (are .0))) $
+      move ! (1 ∷ []) $
       stores ps (a .1) xs (tl bs) (are .1) (move ! (2 ∷ 0 ∷ []) $ join ! $ s)
 
   -- the function is entered, and left
-  pub begins : {Γ : List (Item 𝓤)} {G : Env 𝓤 H → Goal 𝓤 H} (ps : List (Par n)) (a : Denots (Ds P ps)) (ρ X : Ty) (v : Val) (xs : List Ty) (hs : List Home) → Holds (hasTy X v) × WT v → Are (Ds P ps) (Ises (Ds P ps)) a (vss P ps a)
-      → ((bs : List ℕ) → Sq W (raw (Rooms 𝓤 H (EnvOf 𝓤 H xs (rest ps (tl (tl bs))))) ∷ ins ps a (tl (tl bs)) ∷ cell X (hd 0 (tl bs)) v ∷ ‵ (froom ρ (hd 0 bs) zero) ∷ raw (Dies 𝓤 H (Whole 𝓤 H (P .name) ps ρ X xs bs)) ∷ Γ) (G (Whole 𝓤 H (P .name) ps ρ X xs bs)))
+  pub begins : {Γ : List (Item 𝓤)} {G : Env 𝓤 H → Goal 𝓤 H} (ps : List (Par n)) (a : Denots (Ds P ps)) (ρ X : Ty) (v : Val) (xs : List Ty) (hs : List Home) → Holds (hasTy X v) × WT v
+      → Are (Ds P ps) (Ises (Ds P ps)) a (vss P ps a)
+      → ((bs : List ℕ) → Sq W (raw (Rooms 𝓤 H (EnvOf 𝓤 H xs (rest ps (tl (tl bs))))) ∷ ins ps a (tl (tl bs)) ∷ cell X (hd 0 (tl bs)) v ∷ ‵ (froom ρ (hd 0 bs) zero)
+      ∷ raw (Dies 𝓤 H (Whole 𝓤 H (P .name) ps ρ X xs bs)) ∷ Γ) (G (Whole 𝓤 H (P .name) ps ρ X xs bs)))
       → Sq W Γ (allocs (locs (ρ ∷ X ∷ tys (P .name) ps xs) hs) (λ E. params′ E (v ∷ flat (Ds P ps) (vss P ps a)) (G E)))
   begins ps a ρ X v xs hs wt are k = allocs-all (ρ ∷ X ∷ tys (P .name) ps xs) hs (λ bs.
       use1 W (raw (Rooms 𝓤 H (Whole 𝓤 H (P .name) ps ρ X xs bs)) ⊛ raw (Dies 𝓤 H (Whole 𝓤 H (P .name) ps ρ X xs bs))) (fr-split 𝓤 H (Whole 𝓤 H (P .name) ps ρ X xs bs)) $ split ! $
@@ -311,13 +335,16 @@ module _ {M : Type 1} (𝓤 : URA M) (H : Heap 𝓤) (A : Atoms 𝓤) (W : Given
       params1 ! $ pass1 ! (init ! 0 refl wt) $ move ! (1 ∷ []) $ stores ps a xs (tl (tl bs)) are (move ! (1 ∷ []) $ k bs))
 
   pub ends : {Γ : List (Item 𝓤)} {Q : SProp 𝓤} (ps : List (Par n)) (a : Denots (Ds P ps)) (ρ X : Ty) (xs : List Ty) (bs : List ℕ) → Sq W Γ (prop Q)
-      → Sq W (raw (Rooms 𝓤 H (EnvOf 𝓤 H xs (rest ps (tl (tl bs))))) ∷ ins ps a (tl (tl bs)) ∷ ‵ (froom X (hd 0 (tl bs)) zero) ∷ ‵ (froom ρ (hd 0 bs) zero) ∷ raw (Dies 𝓤 H (Whole 𝓤 H (P .name) ps ρ X xs bs)) ∷ Γ) (frees (Whole 𝓤 H (P .name) ps ρ X xs bs) (prop Q))
+      → Sq W (raw (Rooms 𝓤 H (EnvOf 𝓤 H xs (rest ps (tl (tl bs))))) ∷ ins ps a (tl (tl bs)) ∷ ‵ (froom X (hd 0 (tl bs)) zero) ∷ ‵ (froom ρ (hd 0 bs) zero)
+      ∷ raw (Dies 𝓤 H (Whole 𝓤 H (P .name) ps ρ X xs bs)) ∷ Γ) (frees (Whole 𝓤 H (P .name) ps ρ X xs bs) (prop Q))
   ends ps a ρ X xs bs s =
-      move ! (1 ∷ 0 ∷ []) $ use2 W (raw (Rooms 𝓤 H (EnvOf 𝓤 H (tys (P .name) ps xs) (tl (tl bs))))) (ins-rooms ps a xs (tl (tl bs))) $ move ! (1 ∷ 0 ∷ []) $ join ! $ move ! (1 ∷ 0 ∷ []) $ join ! $
+      move ! (1 ∷ 0 ∷ []) $ use2 W (raw (Rooms 𝓤 H (EnvOf 𝓤 H (tys (P .name) ps xs) (tl (tl bs))))) (ins-rooms ps a xs (tl (tl bs))) $ move ! (1 ∷ 0 ∷ []) $ join ! $ move ! (1 ∷ 0 ∷ []) $
+      join ! $
       use2 W (raw (Fr 𝓤 H (Whole 𝓤 H (P .name) ps ρ X xs bs))) (fr-join 𝓤 H (Whole 𝓤 H (P .name) ps ρ X xs bs)) $ frees-all s
 
   -- each `&mut` is lent again
-  pub lends-all : {Γ : List (Item 𝓤)} {C : Calls 𝓤 H} {Λ : Loops 𝓤 H} {E : Env 𝓤 H} {b : Body} {q : Post 𝓤 H} (ps : List (Par n)) (a : Denots (Ds P ps)) (i k : ℕ) (xs : List Ty) (bs cs : List ℕ)
+  pub lends-all : {Γ : List (Item 𝓤)} {C : Calls 𝓤 H} {Λ : Loops 𝓤 H} {E : Env 𝓤 H} {b : Body} {q : Post 𝓤 H} (ps : List (Par n)) (a : Denots (Ds P ps)) (i k : ℕ) (xs : List Ty)
+      (bs cs : List ℕ)
       → suffix i E ≡ EnvOf 𝓤 H (tys (P .name) ps xs) bs → suffix k E ≡ EnvOf 𝓤 H (again ps) cs → Are (Ds P ps) (Ises (Ds P ps)) a (vss P ps a)
       → Sq W (ins ps a bs ∷ lent-out ps a cs ∷ Γ) (runs C Λ E b q) → Sq W (ins ps a bs ∷ raw (Rooms 𝓤 H (EnvOf 𝓤 H (again ps) cs)) ∷ Γ) (runs C Λ E (lends i k ps b) q)
   lends-all {E = E} [] a i k xs bs cs at-i at-k are s = move ! (1 ∷ []) $ drop ! $ nothing ! $ move ! (1 ∷ []) $ s
@@ -329,17 +356,23 @@ module _ {M : Type 1} (𝓤 : URA M) (H : Heap 𝓤) (A : Atoms 𝓤) (W : Given
       split ! $ move ! (1 ∷ []) $ split ! $
       -- [the second room; the other rooms; the first; the parameter; the other parameters]
       assigns ! (addr ! (found (entry 𝓤 H E i at-i) (fld ! refl (hop ! (look-in ! 3 (sub ! 0 refl (whole !))) (stop !))))) (found (entry 𝓤 H E k at-k) (stop !)) (init ! 2 refl (tt, tt)) $
-      assigns ! (agg ! (and-then ! (load ! (found (entry 𝓤 H E k at-k) (stop !)) (look ! 2 refl)) (and-then ! (load ! (found (entry 𝓤 H E i at-i) (fld ! refl (stop !))) (look-in ! 3 (sub ! 1 refl (whole !)))) (no-more !))))
+      assigns ! (agg ! (and-then ! (load ! (found (entry 𝓤 H E k at-k) (stop !)) (look ! 2 refl))
+      (and-then ! (load ! (found (entry 𝓤 H E i at-i) (fld ! refl (stop !))) (look-in ! 3 (sub ! 1 refl (whole !)))) (no-more !))))
       (found (entry 𝓤 H E (suc k) (onward 𝓤 H E k at-k)) (stop !)) (init ! 0 refl (tt, (tt, (record { fits = are .0 .0 .1 .0 }, tt)))) $
       move ! (4 ∷ 1 ∷ []) $ lends-all ps (a .1) (suc i) (suc (suc k)) xs (tl bs) (tl (tl cs)) (onward 𝓤 H E i at-i) (onward 𝓤 H E (suc k) (onward 𝓤 H E k at-k)) (are .1) (regroup ! $ s)
 
   -- and the operands of the core's call are read
-  pub reads-all : {e : Item 𝓤} {Γ : List (Item 𝓤)} {E : Env 𝓤 H} (ps : List (Par n)) (a : Denots (Ds P ps)) (i k : ℕ) (xs : List Ty) (bs cs : List ℕ) → suffix i E ≡ EnvOf 𝓤 H (tys (P .name) ps xs) bs → suffix k E ≡ EnvOf 𝓤 H (again ps) cs
+  pub reads-all : {e : Item 𝓤} {Γ : List (Item 𝓤)} {E : Env 𝓤 H} (ps : List (Par n)) (a : Denots (Ds P ps)) (i k : ℕ) (xs : List Ty) (bs cs : List ℕ)
+      → suffix i E ≡ EnvOf 𝓤 H (tys (P .name) ps xs) bs → suffix k E ≡ EnvOf 𝓤 H (again ps) cs
       → Opds (Go {0}) W (e ∷ ins ps a bs ∷ lent-out ps a cs ∷ Γ) E (ops i k ps) (flat (Cs P ps) (vss′ P ps a))
   reads-all {E = E} [] a i k xs bs cs at-i at-k = no-more !
   reads-all {e} {Γ} {E} (copied p ∷ ps) a i k xs bs cs at-i at-k = read-in
-      (and-then ! (load ! (found (entry 𝓤 H E i at-i) (stop !)) (look ! 3 refl)) (reads-all {e = e} {Γ = cell (p .ty (P .name)) (hd 0 bs) (p .val (P .name) (P .of (P .κs)) (a .0)) ∷ Γ} ps (a .1) (suc i) k xs (tl bs) cs (onward 𝓤 H E i at-i) at-k))
+      (and-then ! (load ! (found (entry 𝓤 H E i at-i) (stop !)) (look ! 3 refl)) (reads-all {e = e} {Γ = cell (p .ty (P .name)) (hd 0 bs) (p .val (P .name) (P .of (P .κs)) (a .0))
+      ∷ Γ} ps (a .1) (suc i) k xs (tl bs) cs (onward 𝓤 H E i at-i) at-k))
       (move ! (1 ∷ []) $ split ! $ move ! (2 ∷ 1 ∷ 3 ∷ 0 ∷ []) $ done !) (move ! (3 ∷ 1 ∷ []) $ join ! $ move ! (1 ∷ []) $ done !)
   reads-all {e} {Γ} {E} (mutable j ok B ∷ ps) a i k xs bs cs at-i at-k = read-in
-      (and-then ! (load ! (found (entry 𝓤 H E (suc k) (onward 𝓤 H E k at-k)) (stop !)) (look ! 3 refl)) (reads-all {e = e} {Γ = cell (sliceTy (refTy B)) (hd 0 (tl cs)) (sliceVal (ptr (a .0)) (length (now (a .0)))) ∷ cell (refTy B) (hd 0 cs) (vptr (ptr (a .0) .0) (ptr (a .0) .1)) ∷ cell (mutTy (P .name j) B) (hd 0 bs) (sliceVal (ptr (a .0)) (length (now (a .0)))) ∷ Γ} ps (a .1) (suc i) (suc (suc k)) xs (tl bs) (tl (tl cs)) (onward 𝓤 H E i at-i) (onward 𝓤 H E (suc k) (onward 𝓤 H E k at-k))))
+      (and-then ! (load ! (found (entry 𝓤 H E (suc k) (onward 𝓤 H E k at-k)) (stop !)) (look ! 3 refl))
+      (reads-all {e = e} {Γ = cell (sliceTy (refTy B)) (hd 0 (tl cs)) (sliceVal (ptr (a .0)) (length (now (a .0)))) ∷ cell (refTy B) (hd 0 cs) (vptr (ptr (a .0) .0) (ptr (a .0) .1))
+      ∷ cell (mutTy (P .name j) B) (hd 0 bs) (sliceVal (ptr (a .0)) (length (now (a .0)))) ∷ Γ} ps (a .1) (suc i) (suc (suc k)) xs (tl bs) (tl (tl cs)) (onward 𝓤 H E i at-i)
+      (onward 𝓤 H E (suc k) (onward 𝓤 H E k at-k))))
       (move ! (1 ∷ 2 ∷ []) $ ungroup ! $ move ! (5 ∷ []) $ done !) (move ! (1 ∷ 2 ∷ 3 ∷ 4 ∷ 5 ∷ []) $ regroup ! $ move ! (2 ∷ []) $ done !)

@@ -3,9 +3,9 @@
 --     opens-elem, shuts-elem   [κ]_q and a `&κ [Command]` at the head of the context: the cell of command i, at some share, with `Aside`, what is kept beside it; and the two put together again. No other place moves
 --     opens-place, shuts-place     the same of a `&κ mut [Command]`, with the whole cell; and the two put together with another command in the cell
 --     calls-fn         a call of a function that meets `closing T c`: at the head of the context then stand what it ensures, its result, the tokens, and what it says of last values
---     proves           the end of such a proof: a walk of the function's MIR is the function's theorem
+--     proves           the end of such a proof: a walk of the function's MIR is the function's theorem, `Proved`
 -- Assumes `Given`.
-use mathlib.Core.Path.{_≡_, refl, sym, ap, subst, _∙_}
+use mathlib.Core.Path.{_≡_, sym, ap, subst, _∙_}
 use Prim.Native.Nat.{ℕ, _<_}
 use mathlib.Core.List.{List, [], _∷_}
 use lib.Dec.{T as Holds}
@@ -88,7 +88,8 @@ module _ {M : Type 1} {𝓤 : URA M} {H : Heap 𝓤} {A : Atoms 𝓤} {K : Type 
       looks-slice t z T.the-row (Is T.the-row) (shows 𝓤 H A T.the-row) vals (LL.tells T.the-type T′.the-laws) (LL.copy T.the-type T′.the-copy 𝓤 H A W) (now x) (ptr x .0) (ptr x .1) (λ q′.
       elem-out t T.the-row (Is T.the-row) (shows 𝓤 H A T.the-row) vals (LL.tells T.the-type T′.the-laws) q′ (now x) i noCommand (ptr x .0) (ptr x .1) l (λ g.
       -- [the cell; what it owns; the others; what shuts; the fractured borrow; res; the fact]
-      move t (5 ∷ 6 ∷ []) $ fjoin t $ move t (5 ∷ 0 ∷ []) $ fjoin t $ move t (4 ∷ 0 ∷ []) $ fjoin t $ move t (3 ∷ 0 ∷ []) $ fjoin t $ move t (2 ∷ 0 ∷ []) $ fjoin t $ move t (1 ∷ 0 ∷ []) $ k q′ g))
+      move t (5 ∷ 6 ∷ []) $ fjoin t $ move t (5 ∷ 0 ∷ []) $ fjoin t $ move t (4 ∷ 0 ∷ []) $ fjoin t $ move t (3 ∷ 0 ∷ []) $ fjoin t $ move t (2 ∷ 0 ∷ []) $ fjoin t $ move t (1 ∷ 0 ∷ []) $
+      k q′ g))
 
   pub shuts-elem : K → Soaks G → {κ : Lft} {q : Share} (x : RefT (List Command)) (vs : List Val) (i : ℕ) → i < length (now x) → (q′ : Share)
       → Step K W (‵ (flft κ q) ∷ ‵ (ShrSlice (named 0) κ T.the-row .own x vs) ∷ Γ) G
@@ -96,7 +97,8 @@ module _ {M : Type 1} {𝓤 : URA M} {H : Heap 𝓤} {A : Atoms 𝓤} {K : Type 
   shuts-elem t z x vs i l q′ = step (λ s.
       move t (1 ∷ []) $ fsplit t $ move t (1 ∷ []) $ fsplit t $ move t (1 ∷ []) $ fsplit t $ move t (1 ∷ []) $ fsplit t $ move t (1 ∷ []) $ fsplit t $
       -- [res; the fact; the fractured borrow; what shuts; the others; what the cell owns; the cell]
-      move t (6 ∷ 5 ∷ 4 ∷ []) $ elem-back t T.the-row q′ (now x) i noCommand (vals (commandIn (now x) i)) (ptr x .0) (ptr x .1) l $ move t (0 ∷ 4 ∷ []) $ shuts-slice t z T.the-row q′ (now x) (ptr x .0) (ptr x .1) $
+      move t (6 ∷ 5 ∷ 4 ∷ []) $ elem-back t T.the-row q′ (now x) i noCommand (vals (commandIn (now x) i)) (ptr x .0) (ptr x .1) l $ move t (0 ∷ 4 ∷ []) $
+      shuts-slice t z T.the-row q′ (now x) (ptr x .0) (ptr x .1) $
       move t (1 ∷ 3 ∷ []) $ fjoin t $ move t (2 ∷ 0 ∷ []) $ fjoin t $ move t (1 ∷ 0 ∷ []) $ s)
 
   pub opens-place : K → Soaks G → {κ : Lft} {q : Share} (γ : GName) (b o : ℕ) (ys : List Command) (vs : List Val) (i : ℕ) → i < length ys
@@ -108,7 +110,8 @@ module _ {M : Type 1} {𝓤 : URA M} {H : Heap 𝓤} {A : Atoms 𝓤} {K : Type 
       -- [the cell; what it owns; the others; the open borrow; obs; auth]
       move t (1 ∷ []) $ drop t $ move t (3 ∷ 4 ∷ []) $ fjoin t $ move t (3 ∷ 0 ∷ []) $ fjoin t $ move t (2 ∷ 0 ∷ []) $ fjoin t $ move t (1 ∷ 0 ∷ []) $ s))
 
-  pub shuts-place : K → Soaks G → {κ : Lft} {q : Share} (γ : GName) (b o : ℕ) (ys : List Command) (n i : ℕ) (c : Command) (vs : List Val) → length ys ≡ n → Room T.the-row n → Is T.the-row c vs → i < length ys
+  pub shuts-place : K → Soaks G → {κ : Lft} {q : Share} (γ : GName) (b o : ℕ) (ys : List Command) (n i : ℕ) (c : Command) (vs : List Val) → length ys ≡ n → Room T.the-row n
+      → Is T.the-row c vs → i < length ys
       → Step K W (‵ (flft κ q) ∷ ‵ (MutSlice (named 0) κ T.the-row .own (at γ b o (set ys i c)) (sliceVal (b, o) n ∷ [])) ∷ Γ) G
       (‵ (cellAt fullShare (T.the-row .mir) vs b (place 16 o i)) ∷ ‵ (Beside κ q γ b o ys i) ∷ Γ) G
   shuts-place t z γ b o ys n i c vs len room g l = step (λ s.
@@ -116,34 +119,51 @@ module _ {M : Type 1} {𝓤 : URA M} {H : Heap 𝓤} {A : Atoms 𝓤} {K : Type 
       owned t T.the-row (Is T.the-row) (LL.makes T.the-type T′.the-plain 𝓤 H A) c _ g $
       -- [what c owns; obs; auth; the open borrow; the others; the cell]
       move t (5 ∷ 0 ∷ 4 ∷ 3 ∷ []) $ elem-put t T.the-row fullShare ys i c vs b o l $ closes-slice t z T.the-row ys (set ys i c) (length-set ys i c) b o $ fjoin t $
-      pureI t (at-slice T.the-row (at γ b o (set ys i c)) (sliceVal (b, o) n ∷ [])) (tt, (tt, tt)) (ap (λ (m : ℕ). sliceVal (b, o) m ∷ []) (sym same), subst (Room T.the-row) (sym same) room) $ fjoin t $ move t (1 ∷ 0 ∷ []) $ s)
+      pureI t (at-slice T.the-row (at γ b o (set ys i c)) (sliceVal (b, o) n ∷ [])) (tt, (tt, tt))
+      (ap (λ (m : ℕ). sliceVal (b, o) m ∷ []) (sym same), subst (Room T.the-row) (sym same) room) $ fjoin t $ move t (1 ∷ 0 ∷ []) $ s)
     where
       same : length (set ys i c) ≡ n
       same = length-set ys i c ∙ len
 
-module _ {M : Type 1} {𝓤 : URA M} {H : Heap 𝓤} {A : Atoms 𝓤} {K : Type 0} {W : Given 𝓤 H A} {Γ : List (Item 𝓤)} {E : Env 𝓤 H} {C : Calls 𝓤 H} {Λ : Loops 𝓤 H} {p : Post 𝓤 H} {f : Name} {xs : List Operand} {d : Place} {rest : Body} where
-  pub calls-fn : K → FmC 𝓤 H (W .laws) C → (S : Ended) (c : Clauses 𝓤 S) → Triple 𝓤 (C f) (tripleOf 𝓤 H A (S .signature) (closing 𝓤 H A S c)) → (y : tripleOf 𝓤 H A (S .signature) (closing 𝓤 H A S c) .Ghost)
+module _ {M : Type 1} {𝓤 : URA M} {H : Heap 𝓤} {A : Atoms 𝓤} {K : Type 0} {W : Given 𝓤 H A} {Γ : List (Item 𝓤)} {E : Env 𝓤 H} {C : Calls 𝓤 H} {Λ : Loops 𝓤 H} {p : Post 𝓤 H} {f : Name}
+    {xs : List Operand} {d : Place} {rest : Body} where
+  pub calls-fn : K → FmC 𝓤 H (W .laws) C → (S : Ended) (c : Clauses 𝓤 S) → Triple 𝓤 (C f) (tripleOf 𝓤 H A (S .signature) (closing 𝓤 H A S c))
+      → (y : tripleOf 𝓤 H A (S .signature) (closing 𝓤 H A S c) .Ghost)
       → Opds K W (raw (tripleOf 𝓤 H A (S .signature) (closing 𝓤 H A S c) .pre y) ∷ Γ) E xs (tripleOf 𝓤 H A (S .signature) (closing 𝓤 H A S c) .args y)
-      → ((u : Val) (r : Res (S .signature) (y .0 .0)) (ws : Lasts S (y .0 .0) (y .0 .3)) → Seq K W (raw (c (y .0 .0) (y .0 .3) .ensures (y .1) r (atExit S (y .0 .0) (y .0 .3) ws)) ∷ ‵ (typeAt (S .signature .result) (y .0 .0) .own r (u ∷ []))
+      → ((u : Val) (r : Res (S .signature) (y .0 .0)) (ws : Lasts S (y .0 .0) (y .0 .3))
+      → Seq K W (raw (c (y .0 .0) (y .0 .3) .ensures (y .1) r (atExit S (y .0 .0) (y .0 .3) ws)) ∷ ‵ (typeAt (S .signature .result) (y .0 .0) .own r (u ∷ []))
       ∷ raw (alive 𝓤 H A (S .signature) (y .0 .0) (y .0 .1)) ∷ ‵ (lasts S (y .0 .0) (y .0 .3) ws) ∷ Γ) (lands C Λ E d u rest p))
       → Seq K W (raw (tripleOf 𝓤 H A (S .signature) (closing 𝓤 H A S c) .pre y) ∷ Γ) (runs C Λ E (seq (call f xs d) rest) p)
   calls-fn t fm S c met y os k = calls-at t fm (tripleOf 𝓤 H A (S .signature) (closing 𝓤 H A S c)) met y os (λ u.
       use1 W (later (some (λ (r : Res (S .signature) (y .0 .0)). (raw (alive 𝓤 H A (S .signature) (y .0 .0) (y .0 .1)) ⊛ ‵ (typeAt (S .signature .result) (y .0 .0) .own r (u ∷ [])))
-      ⊛ some (λ (ws : Lasts S (y .0 .0) (y .0 .3)). ‵ (lasts S (y .0 .0) (y .0 .3) ws) ⊛ raw (c (y .0 .0) (y .0 .3) .ensures (y .1) r (atExit S (y .0 .0) (y .0 .3) ws)))))) (id⊢ 𝓤 _) $ await t tt $ pick t (λ r.
+      ⊛ some (λ (ws : Lasts S (y .0 .0) (y .0 .3)). ‵ (lasts S (y .0 .0) (y .0 .3) ws) ⊛ raw (c (y .0 .0) (y .0 .3) .ensures (y .1) r (atExit S (y .0 .0) (y .0 .3) ws)))))) (id⊢ 𝓤 _) $
+      await t tt $ pick t (λ r.
       split t $ move t (1 ∷ []) $ pick t (λ ws. split t $ move t (2 ∷ []) $ split t $ move t (3 ∷ 1 ∷ 0 ∷ 2 ∷ []) $ k u r ws)))
 
-module _ {M : Type 1} (S : Ended) (hs : Stays (S .signature .params) (S .kept)) (c : (𝓤 : URA M) (H : Heap 𝓤) (A : Atoms 𝓤) → (Memory → SProp 𝓤) → (Routine → Fun 𝓤) → Clauses 𝓤 S) (env : Routines) (key : Name) (f : Fn) where
+-- what the files of a proof pass on: a contract as it is written, that a key means the MIR f, and the theorem of a routine
+abbrev pub Written : Type 1 → Ended → Type 2
+Written M S = (𝓤 : URA M) (H : Heap 𝓤) (A : Atoms 𝓤) → (Memory → SProp 𝓤) → (Routine → Fun 𝓤) → Clauses 𝓤 S
+
+abbrev pub Coded : Type 1 → Routines → Name → Fn → Type 2
+Coded M env key f = (𝓤 : URA M) (H : Heap 𝓤) (𝓜 : Model 𝓤 H) (𝓡 : Running 𝓤 H 𝓜) → Closed 𝓤 H (tables 𝓤 H 𝓜 𝓡 env .C) (tables 𝓤 H 𝓜 𝓡 env .Λ) key f
+
+abbrev pub Proved : (M : Type 1) (S : Ended) → Written M S → Routine → Type 2
+Proved M S c r = (𝓤 : URA M) (H : Heap 𝓤) (𝓜 : Model 𝓤 H) (𝓖 : GhostRules 𝓤 H) (𝓡 : Running 𝓤 H 𝓜)
+    → Meets 𝓤 H (𝓖 .A) (S .signature) (𝓡 .run r) (closing 𝓤 H (𝓖 .A) S (c 𝓤 H (𝓖 .A) (𝓜 .mem) (𝓡 .run)))
+
+module _ {M : Type 1} (S : Ended) (hs : Stays (S .signature .params) (S .kept)) (c : Written M S) (env : Routines) (key : Name) (f : Fn) where
   abbrev Params : Lfts (S .signature .lifetimes) → List RattleType
   Params κs = typesAt (S .signature .params) κs
 
-  pub proves : ((𝓤 : URA M) (H : Heap 𝓤) (𝓜 : Model 𝓤 H) (𝓡 : Running 𝓤 H 𝓜) → Closed 𝓤 H (tables 𝓤 H 𝓜 𝓡 env .C) (tables 𝓤 H 𝓜 𝓡 env .Λ) key f)
-      → ((𝓤 : URA M) (H : Heap 𝓤) (A : Atoms 𝓤) (W : Given 𝓤 H A) → AllGo 𝓤 H A W (S .signature .lifetimes) (S .signature .params) (S .kept) hs)
+  pub proves : Coded M env key f → ((𝓤 : URA M) (H : Heap 𝓤) (A : Atoms 𝓤) (W : Given 𝓤 H A) → AllGo 𝓤 H A W (S .signature .lifetimes) (S .signature .params) (S .kept) hs)
       → (sp : (κs : Lfts (S .signature .lifetimes)) → Spells (Params κs)) → ((κs : Lfts (S .signature .lifetimes)) → Tellss (Params κs) (Ises (Params κs)) (sp κs))
-      → ((𝓤 : URA M) (H : Heap 𝓤) (𝓜 : Model 𝓤 H) (𝓖 : GhostRules 𝓤 H) (𝓡 : Running 𝓤 H 𝓜) (κs : Lfts (S .signature .lifetimes)) (qs : Shares (S .signature .lifetimes)) (bounds : AllOutlive (S .signature .lifetimes) (S .signature .outlives) κs)
-      (a : Args (S .signature) κs) (g : c 𝓤 H (𝓖 .A) (𝓜 .mem) (𝓡 .run) κs a .ghost) → Are (Params κs) (Ises (Params κs)) a (valss (Params κs) (sp κs) a)
+      → ((𝓤 : URA M) (H : Heap 𝓤) (𝓜 : Model 𝓤 H) (𝓖 : GhostRules 𝓤 H) (𝓡 : Running 𝓤 H 𝓜) (κs : Lfts (S .signature .lifetimes)) (qs : Shares (S .signature .lifetimes))
+      (bounds : AllOutlive (S .signature .lifetimes) (S .signature .outlives) κs) (a : Args (S .signature) κs) (g : c 𝓤 H (𝓖 .A) (𝓜 .mem) (𝓡 .run) κs a .ghost)
+      → Are (Params κs) (Ises (Params κs)) a (valss (Params κs) (sp κs) a)
       → ent 𝓤 (sep 𝓤 (onEntry 𝓤 H (𝓖 .A) (S .signature) κs qs a (valss (Params κs) (sp κs) a)) (c 𝓤 H (𝓖 .A) (𝓜 .mem) (𝓡 .run) κs a .requires g))
-      (WpFn 𝓤 H (tables 𝓤 H 𝓜 𝓡 env .C) (tables 𝓤 H 𝓜 𝓡 env .Λ) f (flat (Params κs) (valss (Params κs) (sp κs) a)) (walkOf 𝓤 H (𝓖 .A) S hs (c 𝓤 H (𝓖 .A) (𝓜 .mem) (𝓡 .run)) .post ((κs, qs, bounds, a, valss (Params κs) (sp κs) a), g))))
-      → (𝓤 : URA M) (H : Heap 𝓤) (𝓜 : Model 𝓤 H) (𝓖 : GhostRules 𝓤 H) (𝓡 : Running 𝓤 H 𝓜) → Meets 𝓤 H (𝓖 .A) (S .signature) (tables 𝓤 H 𝓜 𝓡 env .C key) (closing 𝓤 H (𝓖 .A) S (c 𝓤 H (𝓖 .A) (𝓜 .mem) (𝓡 .run)))
+      (WpFn 𝓤 H (tables 𝓤 H 𝓜 𝓡 env .C) (tables 𝓤 H 𝓜 𝓡 env .Λ) f (flat (Params κs) (valss (Params κs) (sp κs) a))
+      (walkOf 𝓤 H (𝓖 .A) S hs (c 𝓤 H (𝓖 .A) (𝓜 .mem) (𝓡 .run)) .post ((κs, qs, bounds, a, valss (Params κs) (sp κs) a), g))))
+      → Proved M S c (env key)
   unfolding tablesOf
   proves closed go sp tl walk 𝓤 H 𝓜 𝓖 𝓡 =
       let C : Calls 𝓤 H = tables 𝓤 H 𝓜 𝓡 env .C in

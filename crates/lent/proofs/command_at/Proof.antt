@@ -61,26 +61,33 @@ module _ {M : Type 1} (𝓤 : URA M) (H : Heap 𝓤) (A : Atoms 𝓤) (W : Given
 
   exits : Is T.the-row c (vals c) → ent 𝓤 (⋆ 𝓤 H A (‵ (flft κ q) ∷ [])) (Post (val c))
   exits g =
-      qed W (‵ (flft κ q) ∷ []) ∵ suffices ! _ (ends-at 𝓤 H A command-at.ended stayed (command-at.clauses 𝓤 H A mem run) W (((κ, tt), (q, tt), tt, (x, (i, tt)), (sv ∷ [], (vint w64 i ∷ [], tt))), tt) (val c) c (tt, (tt, tt)) (tt, (tt, tt))) $ says ! refl $
-      nothing ! $ move ! (1 ∷ 0 ∷ []) $ join ! $ frame ! $ nothing ! $ nothing ! $ fjoin ! $ nothing ! $ fjoin ! $ frame ! $ owned ! T.the-row (Is T.the-row) (LL.makes T.the-type T′.the-plain 𝓤 H A) c _ g $ done !
+      qed W (‵ (flft κ q) ∷ []) ∵ suffices ! _
+      (ends-at 𝓤 H A command-at.ended stayed (command-at.clauses 𝓤 H A mem run) W (((κ, tt), (q, tt), tt, (x, (i, tt)), (sv ∷ [], (vint w64 i ∷ [], tt))), tt) (val c) c (tt, (tt, tt))
+      (tt, (tt, tt))) $ says ! refl $
+      nothing ! $ move ! (1 ∷ 0 ∷ []) $ join ! $ frame ! $ nothing ! $ nothing ! $ fjoin ! $ nothing ! $ fjoin ! $ frame ! $
+      owned ! T.the-row (Is T.the-row) (LL.makes T.the-type T′.the-plain 𝓤 H A) c _ g $ done !
 
   walk : (C : Calls 𝓤 H) (Λ : Loops 𝓤 H) → Room T.the-row (length (now x)) → i < 2 ^ 64 → i < length (now x)
       → ent 𝓤 (onEntry 𝓤 H A command-at.signature (κ, tt) (q, tt) (x, (i, tt)) (sv ∷ [], (vint w64 i ∷ [], tt))) (WpFn 𝓤 H C Λ code.function (sv ∷ vint w64 i ∷ []) Post)
   walk C Λ room small l =
-      qed W ((‵ (flft κ q) ⊛ ‵ ftrue) ∷ ‵ (owns (ShrSlice (named 0) κ T.the-row ∷ usize ∷ []) (x, (i, tt)) (sv ∷ [], (vint w64 i ∷ [], tt))) ∷ []) ∵ enter ! C Λ code.function (sv ∷ vint w64 i ∷ []) _ $
+      qed W ((‵ (flft κ q) ⊛ ‵ ftrue) ∷ ‵ (owns (ShrSlice (named 0) κ T.the-row ∷ usize ∷ []) (x, (i, tt)) (sv ∷ [], (vint w64 i ∷ [], tt))) ∷ []) ∵ enter ! C Λ code.function (sv
+      ∷ vint w64 i ∷ []) _ $
       alloc1 ! (λ l₀. alloc1 ! (λ l₁. alloc1 ! (λ l₂. alloc1 ! (λ l₃. alloc1 ! (λ l₄. alloc1 ! (λ l₅. alloc1 ! (λ l₆. alloc0 ! $ params1 ! $
       pass1 ! (init ! 10 refl (tt, (tt, (record { fits = room .0 }, tt)))) $ pass1 ! (init ! 8 refl (tt, record { fits = small })) $ pass0 ! $
       move ! (15 ∷ []) $ fsplit ! $ move ! (1 ∷ []) $ drop ! $ move ! (15 ∷ []) $ split ! $ move ! (1 ∷ []) $ drop ! $
       -- [the token; what the list owns; the locals: j at 2 + 2 · (6 − j)]
       assigns ! (bin ! (load ! (from ! (stop !)) (look ! 10 refl)) (lit ! tt) (record { fits = scaled })) (from ! (stop !)) (init ! 6 refl (tt, record { fits = scaled })) $
-      assigns ! (bin ! (load ! (from ! (fld ! refl (stop !))) (look-in ! 12 (sub ! 0 refl (whole !)))) (load ! (from ! (stop !)) (look ! 6 refl)) tt) (from ! (stop !)) (init ! 4 refl (tt, tt)) $
+      assigns ! (bin ! (load ! (from ! (fld ! refl (stop !))) (look-in ! 12 (sub ! 0 refl (whole !)))) (load ! (from ! (stop !)) (look ! 6 refl)) tt) (from ! (stop !))
+      (init ! 4 refl (tt, tt)) $
       rewrite ! 4 (λ (p : ℕ). ‵ (fat fullShare tyPtr l₅ 0 (vptr (ptr x .0) p))) (sym (place-is 16 (ptr x .1) i)) refl $
       opens-elem ! tt x (sv ∷ []) i l (λ q′ g.
-      assigns ! (of-opd ! (load ! (from ! (hop ! (look ! 4 refl) (stop !))) (look-raw ! 0 refl))) (from ! (stop !)) (init ! 2 refl (typed 𝓤 H A W c (val c) g)) $ shuts-elem ! tt x (sv ∷ []) i l q′ $
+      assigns ! (of-opd ! (load ! (from ! (hop ! (look ! 4 refl) (stop !))) (look-raw ! 0 refl))) (from ! (stop !)) (init ! 2 refl (typed 𝓤 H A W c (val c) g)) $
+      shuts-elem ! tt x (sv ∷ []) i l q′ $
       assigns ! (of-opd ! (load ! (from ! (stop !)) (look ! 2 refl))) (from ! (stop !)) (init ! 8 refl (typed 𝓤 H A W c (val c) g)) $
       assigns ! (of-opd ! (load ! (from ! (stop !)) (look ! 8 refl))) (from ! (stop !)) (init ! 14 refl (typed 𝓤 H A W c (val c) g)) $
       returns ! (look ! 14 refl) $ forget ! 2 refl $ forget ! 4 refl $ forget ! 6 refl $ forget ! 8 refl $ forget ! 10 refl $ forget ! 12 refl $ forget ! 14 refl $
-      move ! (14 ∷ 15 ∷ 12 ∷ 13 ∷ 10 ∷ 11 ∷ 8 ∷ 9 ∷ 6 ∷ 7 ∷ 4 ∷ 5 ∷ 2 ∷ 3 ∷ []) $ free1 ! $ free1 ! $ free1 ! $ free1 ! $ free1 ! $ free1 ! $ free1 ! $ free0 ! $ keep ! (0 ∷ []) $ by ! (exits g)))))))))
+      move ! (14 ∷ 15 ∷ 12 ∷ 13 ∷ 10 ∷ 11 ∷ 8 ∷ 9 ∷ 6 ∷ 7 ∷ 4 ∷ 5 ∷ 2 ∷ 3 ∷ []) $ free1 ! $ free1 ! $ free1 ! $ free1 ! $ free1 ! $ free1 ! $ free1 ! $ free0 ! $ keep ! (0 ∷ []) $
+      by ! (exits g)))))))))
     where
       scaled : i * 16 < 2 ^ 64
       scaled = omega (arith, l, room .1)

@@ -47,7 +47,8 @@ module _ {M : Type 1} (𝓤 : URA M) (H : Heap 𝓤) (A : Atoms 𝓤) (W : Given
   at = sliceVal (ptr x) n ∷ []
 
   walk : (C : Calls 𝓤 H) (Λ : Loops 𝓤 H) → Room T.the-row n
-      → ent 𝓤 (onEntry 𝓤 H A count.signature (κ, tt) (q, tt) (x, tt) (at, tt)) (WpFn 𝓤 H C Λ code.function at (walkOf 𝓤 H A count.ended stayed (count.clauses 𝓤 H A mem run) .post (((κ, tt), (q, tt), tt, (x, tt), (at, tt)), tt)))
+      → ent 𝓤 (onEntry 𝓤 H A count.signature (κ, tt) (q, tt) (x, tt) (at, tt))
+      (WpFn 𝓤 H C Λ code.function at (walkOf 𝓤 H A count.ended stayed (count.clauses 𝓤 H A mem run) .post (((κ, tt), (q, tt), tt, (x, tt), (at, tt)), tt)))
   walk C Λ room =
       qed W ((‵ (flft κ q) ⊛ ‵ ftrue) ∷ ‵ (owns (ShrSlice (named 0) κ T.the-row ∷ []) (x, tt) (at, tt)) ∷ []) ∵ enter ! C Λ code.function at _ $
       alloc1 ! (λ l₀. alloc1 ! (λ l₁. alloc0 ! $ params1 ! $ pass1 ! (init ! 0 refl (tt, (tt, (record { fits = room .0 }, tt)))) $ pass0 ! $
@@ -60,4 +61,5 @@ pub count-spec : {M : Type 1} → stated.statement M
 unfolding code.routine
 count-spec = proves count.ended stayed count.clauses code.env #count code.function code.unfolded
     (λ 𝓤 H A W. (goes-none-slice 𝓤 H A W 1 (0 ∷ []) tt (plain (λ _. T.the-row)) yes, tt)) (λ κs. (slice-vals, tt)) (λ κs. (shr-slice-tells (named 0) (κs .0) T.the-row, tt))
-    (λ 𝓤 H 𝓜 𝓖 𝓡 κs qs bounds a g are. via 𝓤 _ (fst∗ 𝓤 _ (emp 𝓤)) (walk 𝓤 H (𝓖 .A) (givenOf 𝓤 H 𝓜 𝓖) (𝓜 .mem) (𝓡 .run) (κs .0) (qs .0) (a .0) (tables 𝓤 H 𝓜 𝓡 code.env .C) (tables 𝓤 H 𝓜 𝓡 code.env .Λ) (are .0 .0 .1)))
+    (λ 𝓤 H 𝓜 𝓖 𝓡 κs qs bounds a g are.
+    via 𝓤 _ (fst∗ 𝓤 _ (emp 𝓤)) (walk 𝓤 H (𝓖 .A) (givenOf 𝓤 H 𝓜 𝓖) (𝓜 .mem) (𝓡 .run) (κs .0) (qs .0) (a .0) (tables 𝓤 H 𝓜 𝓡 code.env .C) (tables 𝓤 H 𝓜 𝓡 code.env .Λ) (are .0 .0 .1)))

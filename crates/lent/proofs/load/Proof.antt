@@ -97,7 +97,8 @@ record State (ys : List Command) : Type 0 where
   below : i ≤ length ys
   is : Is S.the-row (loadedOf (take i ys)) (u ∷ [])
 
-module _ {M : Type 1} (𝓤 : URA M) (H : Heap 𝓤) (A : Atoms 𝓤) (W : Given 𝓤 H A) (mem : Memory → SProp 𝓤) (run : Routine → Fun 𝓤) (κ : Lft) (q : Share) (x : RefT (List Command)) (room : Room T.the-row (length (now x))) where
+module _ {M : Type 1} (𝓤 : URA M) (H : Heap 𝓤) (A : Atoms 𝓤) (W : Given 𝓤 H A) (mem : Memory → SProp 𝓤) (run : Routine → Fun 𝓤) (κ : Lft) (q : Share) (x : RefT (List Command))
+    (room : Room T.the-row (length (now x))) where
   abbrev n : ℕ
   n = length (now x)
 
@@ -118,7 +119,8 @@ module _ {M : Type 1} (𝓤 : URA M) (H : Heap 𝓤) (A : Atoms 𝓤) (W : Given
   exits l u g e =
       qed W (‵ (flft κ q) ∷ ‵ (ShrSlice (named 0) κ T.the-row .own x (sv ∷ [])) ∷ []) ∵
       suffices ! _ (ends-at 𝓤 H A loading.ended stayed (loading.clauses 𝓤 H A mem run) W (((κ, tt), (q, tt), tt, (x, tt), (sv ∷ [], tt)), tt) u l (tt, tt) (tt, tt)) $ says ! e $
-      nothing ! $ move ! (1 ∷ 0 ∷ []) $ join ! $ frame ! $ nothing ! $ move ! (1 ∷ 0 ∷ []) $ fjoin ! $ frame ! $ owned ! S.the-row (Is S.the-row) (LL.makes S.the-type S′.the-plain 𝓤 H A) l _ g $ done !
+      nothing ! $ move ! (1 ∷ 0 ∷ []) $ join ! $ frame ! $ nothing ! $ move ! (1 ∷ 0 ∷ []) $ fjoin ! $ frame ! $
+      owned ! S.the-row (Is S.the-row) (LL.makes S.the-type S′.the-plain 𝓤 H A) l _ g $ done !
 
   abbrev zero-val : List Val
   zero-val = vint w64 0 ∷ []
@@ -127,13 +129,15 @@ module _ {M : Type 1} (𝓤 : URA M) (H : Heap 𝓤) (A : Atoms 𝓤) (W : Given
   to-empty = ((tt, tt, tt, (0, (0, (0, tt))), (zero-val, (zero-val, (zero-val, tt)))), tt)
 
   asks-empty : ent 𝓤 (emp 𝓤) (Empty 𝓤 H A mem run .pre to-empty)
-  asks-empty = qed W [] ∵ nothing ! $ owned ! usize (Is usize) (uint-makes 𝓤 H A W w64) 0 _ (refl, lit< tt) $ fjoin ! $ owned ! usize (Is usize) (uint-makes 𝓤 H A W w64) 0 _ (refl, lit< tt) $ fjoin ! $
+  asks-empty = qed W [] ∵ nothing ! $ owned ! usize (Is usize) (uint-makes 𝓤 H A W w64) 0 _ (refl, lit< tt) $ fjoin ! $
+      owned ! usize (Is usize) (uint-makes 𝓤 H A W w64) 0 _ (refl, lit< tt) $ fjoin ! $
       owned ! usize (Is usize) (uint-makes 𝓤 H A W w64) 0 _ (refl, lit< tt) $ fjoin ! $ nothing ! $ join ! $ nothing ! $ move ! (1 ∷ 0 ∷ []) $ join ! $ done !
 
   abbrev to-push : Loaded → Val → Command → Push 𝓤 H A mem run .Ghost
   to-push l u c = ((tt, tt, tt, (l, (c, tt)), (u ∷ [], (vals c, tt))), tt)
 
-  asks-push : (l : Loaded) (u : Val) (c : Command) → Is S.the-row l (u ∷ []) → Is T.the-row c (vals c) → l .count < 18446744073709551615 → ent 𝓤 (emp 𝓤) (Push 𝓤 H A mem run .pre (to-push l u c))
+  asks-push : (l : Loaded) (u : Val) (c : Command) → Is S.the-row l (u ∷ []) → Is T.the-row c (vals c) → l .count < 18446744073709551615
+      → ent 𝓤 (emp 𝓤) (Push 𝓤 H A mem run .pre (to-push l u c))
   asks-push l u c gl g less = qed W [] ∵ says ! less $ nothing ! $ owned ! T.the-row (Is T.the-row) (LL.makes T.the-type T′.the-plain 𝓤 H A) c _ g $ fjoin ! $
       owned ! S.the-row (Is S.the-row) (LL.makes S.the-type S′.the-plain 𝓤 H A) l _ gl $ fjoin ! $ nothing ! $ done !
 
@@ -156,7 +160,8 @@ module _ {M : Type 1} (𝓤 : URA M) (H : Heap 𝓤) (A : Atoms 𝓤) (W : Given
     -- the token, what the list owns, and the locals, the last first: local j at 2 + 2 · (8 − j). The scheme so far and i are a and b
     abbrev Around : Item 𝓤 → Item 𝓤 → List (Item 𝓤)
     Around a b = ‵ (flft κ q) ∷ ‵ (ShrSlice (named 0) κ T.the-row .own x (sv ∷ []))
-        ∷ ‵ (froom T′.mir l₈ 0) ∷ ‵ (fdies T′.mir l₈) ∷ ‵ (froom tyPtr l₇ 0) ∷ ‵ (fdies tyPtr l₇) ∷ ‵ (froom tyBool l₆ 0) ∷ ‵ (fdies tyBool l₆) ∷ ‵ (froom word l₅ 0) ∷ ‵ (fdies word l₅) ∷ ‵ (froom T′.mir l₄ 0) ∷ ‵ (fdies T′.mir l₄)
+        ∷ ‵ (froom T′.mir l₈ 0) ∷ ‵ (fdies T′.mir l₈) ∷ ‵ (froom tyPtr l₇ 0) ∷ ‵ (fdies tyPtr l₇) ∷ ‵ (froom tyBool l₆ 0) ∷ ‵ (fdies tyBool l₆) ∷ ‵ (froom word l₅ 0) ∷ ‵ (fdies word l₅)
+        ∷ ‵ (froom T′.mir l₄ 0) ∷ ‵ (fdies T′.mir l₄)
         ∷ b ∷ ‵ (fdies word l₃) ∷ a ∷ ‵ (fdies S′.mir l₂) ∷ ‵ (fat fullShare slice l₁ 0 sv) ∷ ‵ (fdies slice l₁) ∷ ‵ (froom S′.mir l₀ 0) ∷ ‵ (fdies S′.mir l₀) ∷ []
 
     abbrev At : St → List (Item 𝓤)
@@ -173,20 +178,24 @@ module _ {M : Type 1} (𝓤 : URA M) (H : Heap 𝓤) (A : Atoms 𝓤) (W : Given
         rewrite ! 6 (λ (b : Bool). ‵ (fat fullShare tyBool l₆ 0 (vbool b))) e refl $ leaves-loop ! (load ! (from ! (stop !)) (look ! 6 refl)) $ exec ! C Λ En cm.t-4 (atRet En Post) $
         assigns ! (of-opd ! (load ! (from ! (stop !)) (look ! 14 refl))) (from ! (stop !)) (init ! 18 refl (typed-l 𝓤 H A W (sofar st) (st .u) (st .is))) $
         returns ! (look ! 18 refl) $ forget ! 6 refl $ forget ! 8 refl $ forget ! 12 refl $ forget ! 14 refl $ forget ! 16 refl $ forget ! 18 refl $
-        move ! (18 ∷ 19 ∷ 16 ∷ 17 ∷ 14 ∷ 15 ∷ 12 ∷ 13 ∷ 10 ∷ 11 ∷ 8 ∷ 9 ∷ 6 ∷ 7 ∷ 4 ∷ 5 ∷ 2 ∷ 3 ∷ []) $ free1 ! $ free1 ! $ free1 ! $ free1 ! $ free1 ! $ free1 ! $ free1 ! $ free1 ! $ free1 ! $ free0 ! $
+        move ! (18 ∷ 19 ∷ 16 ∷ 17 ∷ 14 ∷ 15 ∷ 12 ∷ 13 ∷ 10 ∷ 11 ∷ 8 ∷ 9 ∷ 6 ∷ 7 ∷ 4 ∷ 5 ∷ 2 ∷ 3 ∷ []) $ free1 ! $ free1 ! $ free1 ! $ free1 ! $ free1 ! $ free1 ! $ free1 ! $ free1 ! $
+        free1 ! $ free0 ! $
         by ! (exits (sofar st) (st .u) (st .is) (ap loadedOf (take-all (st .i) (now x) (ltb-false (st .i) n e))))
     turn-by st true e =
         assigns ! (of-opd ! (load ! (from ! (fld ! refl (stop !))) (look-in ! 16 (sub ! 1 refl (whole !))))) (from ! (stop !)) (init ! 8 refl (tt, record { fits = room .0 })) $
         assigns ! (bin ! (load ! (from ! (stop !)) (look ! 12 refl)) (load ! (from ! (stop !)) (look ! 8 refl)) tt) (from ! (stop !)) (init ! 6 refl (tt, tt)) $
         rewrite ! 6 (λ (b : Bool). ‵ (fat fullShare tyBool l₆ 0 (vbool b))) e refl $ stays ! (load ! (from ! (stop !)) (look ! 6 refl)) $
         assigns ! (bin ! (load ! (from ! (stop !)) (look ! 12 refl)) (lit ! tt) (record { fits = scaled })) (from ! (stop !)) (store ! 8 refl (tt, record { fits = scaled })) $
-        assigns ! (bin ! (load ! (from ! (fld ! refl (stop !))) (look-in ! 16 (sub ! 0 refl (whole !)))) (load ! (from ! (stop !)) (look ! 8 refl)) tt) (from ! (stop !)) (init ! 4 refl (tt, tt)) $
+        assigns ! (bin ! (load ! (from ! (fld ! refl (stop !))) (look-in ! 16 (sub ! 0 refl (whole !)))) (load ! (from ! (stop !)) (look ! 8 refl)) tt) (from ! (stop !))
+        (init ! 4 refl (tt, tt)) $
         rewrite ! 4 (λ (p : ℕ). ‵ (fat fullShare tyPtr l₇ 0 (vptr (ptr x .0) p))) (sym (place-is 16 (ptr x .1) (st .i))) refl $
         opens-elem ! tt x (sv ∷ []) (st .i) less (λ q′ g.
-        assigns ! (of-opd ! (load ! (from ! (hop ! (look ! 4 refl) (stop !))) (look-raw ! 0 refl))) (from ! (stop !)) (init ! 2 refl (typed 𝓤 H A W c (val c) g)) $ shuts-elem ! tt x (sv ∷ []) (st .i) less q′ $
+        assigns ! (of-opd ! (load ! (from ! (hop ! (look ! 4 refl) (stop !))) (look-raw ! 0 refl))) (from ! (stop !)) (init ! 2 refl (typed 𝓤 H A W c (val c) g)) $
+        shuts-elem ! tt x (sv ∷ []) (st .i) less q′ $
         assigns ! (of-opd ! (load ! (from ! (stop !)) (look ! 2 refl))) (from ! (stop !)) (init ! 10 refl (typed 𝓤 H A W c (val c) g)) $
         use0 W (raw (Push 𝓤 H A mem run .pre (to-push (sofar st) (st .u) c))) (asks-push (sofar st) (st .u) c (st .is) g counted) $
-        calls-fn ! (fmOf 𝓤 H (W .laws) 𝓣) push.ended (push.clauses 𝓤 H A mem run) known (to-push (sofar st) (st .u) c) (and-then ! (load ! (from ! (stop !)) (look ! 15 refl)) (and-then ! (load ! (from ! (stop !)) (look ! 11 refl)) (no-more !))) (λ u r ws.
+        calls-fn ! (fmOf 𝓤 H (W .laws) 𝓣) push.ended (push.clauses 𝓤 H A mem run) known (to-push (sofar st) (st .u) c)
+        (and-then ! (load ! (from ! (stop !)) (look ! 15 refl)) (and-then ! (load ! (from ! (stop !)) (look ! 11 refl)) (no-more !))) (λ u r ws.
         heard ! (r ≡ pushed (sofar st) c) (λ said. facts ! S.the-row (Is S.the-row) (shows 𝓤 H A S.the-row) r (u ∷ []) (λ is. drop ! $ drop ! $
         land ! (from ! (stop !)) (store ! 14 refl (typed-l 𝓤 H A W r u is)) $
         assigns-last ! (bin ! (load ! (from ! (stop !)) (look ! 12 refl)) (lit ! tt) (record { fits = next-fits })) (from ! (stop !)) (store ! 12 refl (tt, record { fits = next-fits })) $
@@ -208,7 +217,12 @@ module _ {M : Type 1} (𝓤 : URA M) (H : Heap 𝓤) (A : Atoms 𝓤) (W : Given
         counted = omega (arith, less, room .1, loaded-count (take (st .i) (now x)), length-take-le (st .i) (now x) (st .below))
 
         next : (u : Val) (r : Loaded) → r ≡ pushed (sofar st) c → Is S.the-row r (u ∷ []) → St
-        next u r said is = record { i = st .i + 1; u = u; below = omega (arith, less); is = subst (λ (l : Loaded). Is S.the-row l (u ∷ [])) (said ∙ sym (loaded-more (now x) (st .i) less)) is }
+        next u r said is = record {
+          i = st .i + 1;
+          u = u;
+          below = omega (arith, less);
+          is = subst (λ (l : Loaded). Is S.the-row l (u ∷ [])) (said ∙ sym (loaded-more (now x) (st .i) less)) is;
+        }
 
     the-loop : (st : St) → Sq W (At st) (runs C Λ En cm.t-3 (atRet En Post))
     the-loop st = first ! $ blocks ! $ loops ! 𝓣 Nearer Nearer-wf At (λ st′. turn-by st′ (ltb (st′ .i) n) refl) st
@@ -216,12 +230,15 @@ module _ {M : Type 1} (𝓤 : URA M) (H : Heap 𝓤) (A : Atoms 𝓤) (W : Given
     begins : Triple 𝓤 (𝓣 .C #empty) (Empty 𝓤 H A mem run) → Sq W (Around (‵ (froom S′.mir l₂ 0)) (‵ (froom word l₃ 0))) (runs C Λ En cm.t-1 (atRet En Post))
     begins known-empty =
         use0 W (raw (Empty 𝓤 H A mem run .pre to-empty)) asks-empty $
-        calls-fn ! (fmOf 𝓤 H (W .laws) 𝓣) empty.ended (empty.clauses 𝓤 H A mem run) known-empty to-empty (and-then ! (lit ! tt) (and-then ! (lit ! tt) (and-then ! (lit ! tt) (no-more !)))) (λ u r ws.
-        heard ! (r ≡ unloaded 0 0 0) (λ said. facts ! S.the-row (Is S.the-row) (shows 𝓤 H A S.the-row) r (u ∷ []) (λ is. drop ! $ drop ! $ land ! (from ! (stop !)) (init ! 14 refl (typed-l 𝓤 H A W r u is)) $
+        calls-fn ! (fmOf 𝓤 H (W .laws) 𝓣) empty.ended (empty.clauses 𝓤 H A mem run) known-empty to-empty (and-then ! (lit ! tt) (and-then ! (lit ! tt) (and-then ! (lit ! tt) (no-more !))))
+        (λ u r ws.
+        heard ! (r ≡ unloaded 0 0 0) (λ said. facts ! S.the-row (Is S.the-row) (shows 𝓤 H A S.the-row) r (u ∷ []) (λ is. drop ! $ drop ! $
+        land ! (from ! (stop !)) (init ! 14 refl (typed-l 𝓤 H A W r u is)) $
         assigns ! (of-opd ! (lit ! tt)) (from ! (stop !)) (init ! 12 refl (tt, record { fits = lit< tt })) $
         the-loop record { i = 0; u = u; below = zero-le; is = subst (λ (l : Loaded). Is S.the-row l (u ∷ [])) (said ∙ sym loaded-nil) is })))
 
-  walk : (𝓣 : Tables 𝓤 H) → Triple 𝓤 (𝓣 .C #empty) (Empty 𝓤 H A mem run) → Triple 𝓤 (𝓣 .C #push) (Push 𝓤 H A mem run) → ent 𝓤 (onEntry 𝓤 H A loading.signature (κ, tt) (q, tt) (x, tt) (sv ∷ [], tt)) (WpFn 𝓤 H (𝓣 .C) (𝓣 .Λ) code.function (sv ∷ []) Post)
+  walk : (𝓣 : Tables 𝓤 H) → Triple 𝓤 (𝓣 .C #empty) (Empty 𝓤 H A mem run) → Triple 𝓤 (𝓣 .C #push) (Push 𝓤 H A mem run)
+      → ent 𝓤 (onEntry 𝓤 H A loading.signature (κ, tt) (q, tt) (x, tt) (sv ∷ [], tt)) (WpFn 𝓤 H (𝓣 .C) (𝓣 .Λ) code.function (sv ∷ []) Post)
   walk 𝓣 known-empty known =
       qed W ((‵ (flft κ q) ⊛ ‵ ftrue) ∷ ‵ (owns (ShrSlice (named 0) κ T.the-row ∷ []) (x, tt) (sv ∷ [], tt)) ∷ []) ∵ enter ! (𝓣 .C) (𝓣 .Λ) code.function (sv ∷ []) _ $
       alloc1 ! (λ l₀. alloc1 ! (λ l₁. alloc1 ! (λ l₂. alloc1 ! (λ l₃. alloc1 ! (λ l₄. alloc1 ! (λ l₅. alloc1 ! (λ l₆. alloc1 ! (λ l₇. alloc1 ! (λ l₈. alloc0 ! $ params1 ! $
@@ -232,6 +249,7 @@ pub load-spec : {M : Type 1} → stated.statement M
 unfolding code.routine tablesOf
 load-spec = proves loading.ended stayed loading.clauses code.env #load code.function code.unfolded
     (λ 𝓤 H A W. (goes-none-slice 𝓤 H A W 1 (0 ∷ []) tt (plain (λ _. T.the-row)) yes, tt)) (λ κs. (slice-vals, tt)) (λ κs. (shr-slice-tells (named 0) (κs .0) T.the-row, tt))
-    (λ 𝓤 H 𝓜 𝓖 𝓡 κs qs bounds a g are. via 𝓤 _ (fst∗ 𝓤 _ (emp 𝓤)) (walk 𝓤 H (𝓖 .A) (givenOf 𝓤 H 𝓜 𝓖) (𝓜 .mem) (𝓡 .run) (κs .0) (qs .0) (a .0) (are .0 .0 .1) (tablesOf 𝓤 H 𝓜 (tables 𝓤 H 𝓜 𝓡 code.env))
+    (λ 𝓤 H 𝓜 𝓖 𝓡 κs qs bounds a g are.
+    via 𝓤 _ (fst∗ 𝓤 _ (emp 𝓤)) (walk 𝓤 H (𝓖 .A) (givenOf 𝓤 H 𝓜 𝓖) (𝓜 .mem) (𝓡 .run) (κs .0) (qs .0) (a .0) (are .0 .0 .1) (tablesOf 𝓤 H 𝓜 (tables 𝓤 H 𝓜 𝓡 code.env))
     (cited 𝓤 H (Empty 𝓤 H (𝓖 .A) (𝓜 .mem) (𝓡 .run)) 𝓜 𝓡 code.env #empty empty-def.routine code.calls-schemes·empty (empty-thm.met 𝓤 H 𝓜 𝓖 𝓡))
     (cited 𝓤 H (Push 𝓤 H (𝓖 .A) (𝓜 .mem) (𝓡 .run)) 𝓜 𝓡 code.env #push push-def.routine code.calls-schemes·push (push-thm.met 𝓤 H 𝓜 𝓖 𝓡))))

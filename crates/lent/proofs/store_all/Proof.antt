@@ -45,7 +45,7 @@ use denote.Triple.Walked.{says, needs, Stays, stay-slice, stay-dropped, walkOf, 
 use denote.Exit.{yes}
 use Rattle.model.specs.declared.Command.{Command}
 use Rattle.model.specs.Words.{writtenOver}
-use Rattle.model.specs.Schemes.{commandIn, commandAt}
+use Rattle.model.specs.Schemes.{commandAt}
 use Rattle.model.proofs.Command as T
 use Rattle.model.proofs.Command.Laws as T′
 use Rattle.schemes.specs.declared.Loaded.{Loaded}
@@ -87,7 +87,8 @@ vals-l = LL.vals S.the-type S′.the-laws
 whole-l : (l : Loaded) → Is S.the-row l (vals-l l) → length (l .commands) ≡ 64
 whole-l l g = simp length-map at (g .1 .1 .1 .1 .1 .1 .0 .1 .0 .1)
 
-module _ {M : Type 1} (𝓤 : URA M) (H : Heap 𝓤) (A : Atoms 𝓤) (W : Given 𝓤 H A) (mem : Memory → SProp 𝓤) (run : Routine → Fun 𝓤) (κ : Lft) (q : Share) (b o : ℕ) (γ : GName) (ys : List Command) (l : Loaded)
+module _ {M : Type 1} (𝓤 : URA M) (H : Heap 𝓤) (A : Atoms 𝓤) (W : Given 𝓤 H A) (mem : Memory → SProp 𝓤) (run : Routine → Fun 𝓤) (κ : Lft) (q : Share) (b o : ℕ) (γ : GName)
+    (ys : List Command) (l : Loaded)
     (room : Room T.the-row (length ys)) (is : Is S.the-row l (vals-l l)) (few : l .count ≤ 64) (fits : l .count ≤ length ys) where
   abbrev n : ℕ
   n = length ys
@@ -117,8 +118,10 @@ module _ {M : Type 1} (𝓤 : URA M) (H : Heap 𝓤) (A : Atoms 𝓤) (W : Given
   exits : (i : ℕ) → i ≡ l .count → ent 𝓤 (⋆ 𝓤 H A (‵ (flft κ q) ∷ Lent (sofar i) ∷ [])) (Post vunit)
   exits i e =
       qed W (‵ (flft κ q) ∷ Lent (sofar i) ∷ []) ∵
-      suffices ! _ (ends-at 𝓤 H A store-all.ended stayed (store-all.clauses 𝓤 H A mem run) W (((κ, tt), (q, tt), tt, args, mach), tt) vunit tt (sofar i, (tt, tt)) (same i (omega (arith, e)), (tt, tt))) $ says ! (ap sofar e) $
-      nothing ! $ move ! (1 ∷ 0 ∷ []) $ join ! $ frame ! $ nothing ! $ nothing ! $ fjoin ! $ move ! (1 ∷ 0 ∷ []) $ fjoin ! $ frame ! $ feqI ! (List Val) (vunit ∷ []) (vunit ∷ []) refl $ done !
+      suffices ! _ (ends-at 𝓤 H A store-all.ended stayed (store-all.clauses 𝓤 H A mem run) W (((κ, tt), (q, tt), tt, args, mach), tt) vunit tt (sofar i, (tt, tt))
+      (same i (omega (arith, e)), (tt, tt))) $ says ! (ap sofar e) $
+      nothing ! $ move ! (1 ∷ 0 ∷ []) $ join ! $ frame ! $ nothing ! $ nothing ! $ fjoin ! $ move ! (1 ∷ 0 ∷ []) $ fjoin ! $ frame ! $ feqI ! (List Val) (vunit ∷ []) (vunit ∷ []) refl $
+      done !
 
   abbrev to-kept : ℕ → Kept 𝓤 H A mem run .Ghost
   to-kept i = ((tt, tt, tt, (l, (i, tt)), (vals-l l, (vint w64 i ∷ [], tt))), tt)
@@ -152,7 +155,8 @@ module _ {M : Type 1} (𝓤 : URA M) (H : Heap 𝓤) (A : Atoms 𝓤) (W : Given
     abbrev At : State → List (Item 𝓤)
     At st = ‵ (flft κ q) ∷ Lent (sofar (st .i))
         ∷ ‵ (froom tyPtr l₇ 0) ∷ ‵ (fdies tyPtr l₇) ∷ ‵ (froom word l₆ 0) ∷ ‵ (fdies word l₆) ∷ ‵ (froom tyBool l₅ 0) ∷ ‵ (fdies tyBool l₅) ∷ ‵ (froom T′.mir l₄ 0) ∷ ‵ (fdies T′.mir l₄)
-        ∷ ‵ (fat fullShare word l₃ 0 (vint w64 (st .i))) ∷ ‵ (fdies word l₃) ∷ ‵ (fat fullShare S′.mir l₂ 0 (val-l l)) ∷ ‵ (fdies S′.mir l₂) ∷ ‵ (fat fullShare slice l₁ 0 sv) ∷ ‵ (fdies slice l₁) ∷ ‵ (froom tyUnit l₀ 0) ∷ ‵ (fdies tyUnit l₀) ∷ []
+        ∷ ‵ (fat fullShare word l₃ 0 (vint w64 (st .i))) ∷ ‵ (fdies word l₃) ∷ ‵ (fat fullShare S′.mir l₂ 0 (val-l l)) ∷ ‵ (fdies S′.mir l₂) ∷ ‵ (fat fullShare slice l₁ 0 sv)
+        ∷ ‵ (fdies slice l₁) ∷ ‵ (froom tyUnit l₀ 0) ∷ ‵ (fdies tyUnit l₀) ∷ []
 
     abbrev Turned : State → Out → SProp 𝓤
     Turned st = afterTurn 𝓤 H (Below 𝓤 H A Nearer At st) (afterBlock 𝓤 H (afterSeq 𝓤 H (Wp 𝓤 H C Λ En cm.t-3 (atReturn 𝓤 H En Post)) (atReturn 𝓤 H En Post)))
@@ -160,23 +164,28 @@ module _ {M : Type 1} (𝓤 : URA M) (H : Heap 𝓤) (A : Atoms 𝓤) (W : Given
     turn-by : (st : State) (t : Bool) → ltb (st .i) (l .count) ≡ t → Sq W (At st) (runs C Λ En cm.turn-1 (anyQ (Turned st)))
     unfolding afterTurn
     turn-by st false e =
-        assigns ! (bin ! (load ! (from ! (stop !)) (look ! 10 refl)) (load ! (from ! (fld ! refl (stop !))) (look-in ! 12 (sub ! 3 refl (whole !)))) tt) (from ! (stop !)) (init ! 6 refl (tt, tt)) $
+        assigns ! (bin ! (load ! (from ! (stop !)) (look ! 10 refl)) (load ! (from ! (fld ! refl (stop !))) (look-in ! 12 (sub ! 3 refl (whole !)))) tt) (from ! (stop !))
+        (init ! 6 refl (tt, tt)) $
         rewrite ! 6 (λ (t : Bool). ‵ (fat fullShare tyBool l₅ 0 (vbool t))) e refl $ leaves-loop ! (load ! (from ! (stop !)) (look ! 6 refl)) $ exec ! C Λ En cm.t-3 (atRet En Post) $
         assigns ! (of-opd ! (unit-lit !)) (from ! (stop !)) (init ! 16 refl (tt, tt)) $
         returns ! (look ! 16 refl) $ forget ! 6 refl $ forget ! 10 refl $ forget ! 12 refl $ forget ! 14 refl $ forget ! 16 refl $
         move ! (16 ∷ 17 ∷ 14 ∷ 15 ∷ 12 ∷ 13 ∷ 10 ∷ 11 ∷ 8 ∷ 9 ∷ 6 ∷ 7 ∷ 4 ∷ 5 ∷ 2 ∷ 3 ∷ []) $ free1 ! $ free1 ! $ free1 ! $ free1 ! $ free1 ! $ free1 ! $ free1 ! $ free1 ! $ free0 ! $
         by ! (exits (st .i) (omega (arith, st .below, ltb-false (st .i) (l .count) e)))
     turn-by st true e =
-        assigns ! (bin ! (load ! (from ! (stop !)) (look ! 10 refl)) (load ! (from ! (fld ! refl (stop !))) (look-in ! 12 (sub ! 3 refl (whole !)))) tt) (from ! (stop !)) (init ! 6 refl (tt, tt)) $
+        assigns ! (bin ! (load ! (from ! (stop !)) (look ! 10 refl)) (load ! (from ! (fld ! refl (stop !))) (look-in ! 12 (sub ! 3 refl (whole !)))) tt) (from ! (stop !))
+        (init ! 6 refl (tt, tt)) $
         rewrite ! 6 (λ (t : Bool). ‵ (fat fullShare tyBool l₅ 0 (vbool t))) e refl $ stays ! (load ! (from ! (stop !)) (look ! 6 refl)) $
         use0 W (raw (Kept 𝓤 H A mem run .pre (to-kept (st .i)))) (asks (st .i) less) $
-        calls-fn ! (fmOf 𝓤 H (W .laws) 𝓣) command-of.ended (command-of.clauses 𝓤 H A mem run) known (to-kept (st .i)) (and-then ! (load ! (from ! (stop !)) (look ! 13 refl)) (and-then ! (load ! (from ! (stop !)) (look ! 11 refl)) (no-more !))) (λ u c ws.
+        calls-fn ! (fmOf 𝓤 H (W .laws) 𝓣) command-of.ended (command-of.clauses 𝓤 H A mem run) known (to-kept (st .i))
+        (and-then ! (load ! (from ! (stop !)) (look ! 13 refl)) (and-then ! (load ! (from ! (stop !)) (look ! 11 refl)) (no-more !))) (λ u c ws.
         heard ! (c ≡ commandAt (schemeIn l) (st .i)) (λ said. facts ! T.the-row (Is T.the-row) (shows 𝓤 H A T.the-row) c (u ∷ []) (λ g. drop ! $ drop ! $
         land ! (from ! (stop !)) (init ! 8 refl (typed 𝓤 H A W c u g)) $
         assigns ! (bin ! (load ! (from ! (stop !)) (look ! 10 refl)) (lit ! tt) (record { fits = scaled })) (from ! (stop !)) (init ! 4 refl (tt, record { fits = scaled })) $
-        assigns ! (bin ! (load ! (from ! (fld ! refl (stop !))) (look-in ! 14 (sub ! 0 refl (whole !)))) (load ! (from ! (stop !)) (look ! 4 refl)) tt) (from ! (stop !)) (init ! 2 refl (tt, tt)) $
+        assigns ! (bin ! (load ! (from ! (fld ! refl (stop !))) (look-in ! 14 (sub ! 0 refl (whole !)))) (load ! (from ! (stop !)) (look ! 4 refl)) tt) (from ! (stop !))
+        (init ! 2 refl (tt, tt)) $
         rewrite ! 2 (λ (p : ℕ). ‵ (fat fullShare tyPtr l₇ 0 (vptr b p))) (sym (place-is 16 o (st .i))) refl $
-        opens-place ! tt γ b o (sofar (st .i)) (sv ∷ []) (st .i) inside $ assigns ! (of-opd ! (load ! (from ! (stop !)) (look ! 8 refl))) (from ! (hop ! (look ! 2 refl) (stop !))) (store-raw ! 0 refl (typed 𝓤 H A W c u g)) $
+        opens-place ! tt γ b o (sofar (st .i)) (sv ∷ []) (st .i) inside $
+        assigns ! (of-opd ! (load ! (from ! (stop !)) (look ! 8 refl))) (from ! (hop ! (look ! 2 refl) (stop !))) (store-raw ! 0 refl (typed 𝓤 H A W c u g)) $
         shuts-place ! tt γ b o (sofar (st .i)) n (st .i) c (u ∷ []) (same (st .i) (st .below)) room g inside $ rewrite ! 1 (λ (zs : List Command). Lent zs) (one-more c said) refl $
         assigns-last ! (bin ! (load ! (from ! (stop !)) (look ! 10 refl)) (lit ! tt) (record { fits = next-fits })) (from ! (stop !)) (store ! 10 refl (tt, record { fits = next-fits })) $
         forget ! 2 refl $ forget ! 4 refl $ forget ! 6 refl $ forget ! 8 refl $ again ! Nearer At st (record { i = st .i + 1; below = omega (arith, less) }) (omega (arith, less)))))
@@ -195,18 +204,21 @@ module _ {M : Type 1} (𝓤 : URA M) (H : Heap 𝓤) (A : Atoms 𝓤) (W : Given
 
         one-more : (c : Command) → c ≡ commandAt (schemeIn l) (st .i) → set (sofar (st .i)) (st .i) c ≡ sofar (st .i + 1)
         one-more c said =
-            ap (set (sofar (st .i)) (st .i)) (said ∙ listed-at l (whole-l l is) (st .i) less (omega (arith, less, few))) ∙ stored-more (l .commands) ys (st .i) (omega (arith, less, few, whole-l l is)) (omega (arith, less, fits))
+            ap (set (sofar (st .i)) (st .i)) (said ∙ listed-at l (whole-l l is) (st .i) less (omega (arith, less, few)))
+            ∙ stored-more (l .commands) ys (st .i) (omega (arith, less, few, whole-l l is)) (omega (arith, less, fits))
 
     the-loop : (st : State) → Sq W (At st) (runs C Λ En cm.t-2 (atRet En Post))
     the-loop st = first ! $ blocks ! $ loops ! 𝓣 Nearer Nearer-wf At (λ st′. turn-by st′ (ltb (st′ .i) (l .count)) refl) st
 
-  walk : (𝓣 : Tables 𝓤 H) → Triple 𝓤 (𝓣 .C #command-of) (Kept 𝓤 H A mem run) → ent 𝓤 (onEntry 𝓤 H A store-all.signature (κ, tt) (q, tt) args mach) (WpFn 𝓤 H (𝓣 .C) (𝓣 .Λ) code.function (sv ∷ val-l l ∷ []) Post)
+  walk : (𝓣 : Tables 𝓤 H) → Triple 𝓤 (𝓣 .C #command-of) (Kept 𝓤 H A mem run)
+      → ent 𝓤 (onEntry 𝓤 H A store-all.signature (κ, tt) (q, tt) args mach) (WpFn 𝓤 H (𝓣 .C) (𝓣 .Λ) code.function (sv ∷ val-l l ∷ []) Post)
   walk 𝓣 known =
       qed W ((‵ (flft κ q) ⊛ ‵ ftrue) ∷ ‵ (owns (MutSlice (named 0) κ T.the-row ∷ S.the-row ∷ []) args mach) ∷ []) ∵ enter ! (𝓣 .C) (𝓣 .Λ) code.function (sv ∷ val-l l ∷ []) _ $
       alloc1 ! (λ l₀. alloc1 ! (λ l₁. alloc1 ! (λ l₂. alloc1 ! (λ l₃. alloc1 ! (λ l₄. alloc1 ! (λ l₅. alloc1 ! (λ l₆. alloc1 ! (λ l₇. alloc0 ! $ params1 ! $
       pass1 ! (init ! 12 refl (tt, (tt, (record { fits = room .0 }, tt)))) $ pass1 ! (init ! 10 refl (LL.lawful S.the-type S′.the-laws 𝓤 H A W .typed l (vals-l l) is .0)) $ pass0 ! $
       assigns ! (of-opd ! (lit ! tt)) (from ! (stop !)) (init ! 8 refl (tt, record { fits = lit< tt })) $
-      move ! (17 ∷ []) $ fsplit ! $ move ! (1 ∷ []) $ drop ! $ move ! (17 ∷ []) $ split ! $ move ! (1 ∷ []) $ drop ! $ rewrite ! 1 (λ (zs : List Command). Lent zs) (sym (stored-none (l .commands) ys)) refl $
+      move ! (17 ∷ []) $ fsplit ! $ move ! (1 ∷ []) $ drop ! $ move ! (17 ∷ []) $ split ! $ move ! (1 ∷ []) $ drop ! $
+      rewrite ! 1 (λ (zs : List Command). Lent zs) (sym (stored-none (l .commands) ys)) refl $
       the-loop 𝓣 known l₀ l₁ l₂ l₃ l₄ l₅ l₆ l₇ record { i = 0; below = zero-le }))))))))
 
 pub store-all-spec : {M : Type 1} → stated.statement M
@@ -215,5 +227,6 @@ store-all-spec = proves store-all.ended stayed store-all.clauses code.env #store
     (λ 𝓤 H A W. (goes-slice 𝓤 H A W 1 0 tt (plain (λ _. T.the-row)), (goes-dropped 𝓤 H A W 1 (plain (λ _. S.the-row)) yes (λ κs x f. refl), tt)))
     (λ κs. (slice-vals, (vals-l, tt))) (λ κs. (mut-slice-tells (named 0) (κs .0) T.the-row, (LL.tells S.the-type S′.the-laws, tt)))
     (λ 𝓤 H 𝓜 𝓖 𝓡 κs qs bounds a g are. needs 𝓤 ((a .1 .0 .count ≤ 64) × (a .1 .0 .count ≤ length (now (a .0)))) _ (λ asked.
-    walk 𝓤 H (𝓖 .A) (givenOf 𝓤 H 𝓜 𝓖) (𝓜 .mem) (𝓡 .run) (κs .0) (qs .0) (a .0 .ptr .0) (a .0 .ptr .1) (a .0 .name) (a .0 .now) (a .1 .0) (are .0 .0 .1) (are .1 .0) (asked .0) (asked .1) (tablesOf 𝓤 H 𝓜 (tables 𝓤 H 𝓜 𝓡 code.env))
+    walk 𝓤 H (𝓖 .A) (givenOf 𝓤 H 𝓜 𝓖) (𝓜 .mem) (𝓡 .run) (κs .0) (qs .0) (a .0 .ptr .0) (a .0 .ptr .1) (a .0 .name) (a .0 .now) (a .1 .0) (are .0 .0 .1) (are .1 .0) (asked .0) (asked .1)
+    (tablesOf 𝓤 H 𝓜 (tables 𝓤 H 𝓜 𝓡 code.env))
     (cited 𝓤 H (Kept 𝓤 H (𝓖 .A) (𝓜 .mem) (𝓡 .run)) 𝓜 𝓡 code.env #command-of command-of-def.routine code.calls-schemes·command-of (command-of-thm.met 𝓤 H 𝓜 𝓖 𝓡))))
