@@ -2,6 +2,8 @@
 --     function         the MIR of a door: it is `code.function` of each by computation.        ended, coreEnded      its signature, and the core's
 --     clauses c        the contract of a door is the core's, c, at `loadedOf (now commands)`
 --     closes           what a door's file cites: it meets that contract, where the core meets its own
+--                      of `fn door(commands: &[Command], types: usize, card: &[u8], roster: &mut [u32]) -> RosterRead` the file says
+--                      Doors.closes 2 (value size ∷ lent 0 tt byte ∷ mutable 1 tt word ∷ []) rosterRead core-def.name core.clauses code.env #door code.unfolded code.calls-lent·load code.calls-core core-thm.met
 --     closes-as        the same for a contract in the door's own words, which follows from that one (`Follows`).        fact-as     a clause that states a fact, from another
 -- The contract's `post` hands no parameter back, so the door's is the core's with the token of commands beside it.
 -- Assumes `Given`.

@@ -6,3 +6,4 @@ pub mod Pars
 pub mod Doors
 pub mod Lends
 pub mod Lents
+pub mod Fills

@@ -1,6 +1,9 @@
 // The lent list of a scheme's commands: the few functions that read or write it. Each is proved by hand, since the borrow checker
-// covers no slice of structs. A public call loads the list into a scheme by value and goes on with that (proofs/Doors.antt).
+// covers no slice of structs. A public call loads the list into a scheme by value and goes on with that, and its proof is one line
+// over proofs/Doors.antt; the call that fills the list is over proofs/Fills.antt, and a way in for callers that have the commands by
+// value, as programs do, over proofs/Lents.antt. Inner functions: none is offered outside.
 use model::Command;
+use model::SchemeRead;
 use schemes::Loaded;
 use schemes::command_of;
 use schemes::empty;
@@ -61,4 +64,10 @@ pub fn store_all(commands: &mut [Command], l: Loaded)
         commands[i] = c;
         i += 1;
     }
+}
+
+// What the call that fills the list goes on with: its answer, and the scheme whose commands it writes.
+pub struct Filled {
+    pub answer: SchemeRead,
+    pub scheme: Loaded,
 }
