@@ -67,6 +67,9 @@ module _ (h : Handed) where
 
 -- ---- what an accepted one tells
 
+pub is-accepted : (h : Handed) (b : Bool) → b ≡ hasRooms h → not b ≡ false → (n : ℕ) → n ≡ handedNumber h → n ≡ 0 → Accepted h
+is-accepted h b eb e n en z = record { rooms = sym eb ∙ not-false b e; number = sym en ∙ z }
+
 pub record Sized (h : Handed) : Type 0 where
   pub roster-room : rosterRoom ≤ length (h .roster)
   pub store-room : storeRoom ≤ length (h .store)
