@@ -5,7 +5,57 @@ use lent::load;
 use model::AccessList;
 use model::Command;
 use model::MayUse;
-ghost use Rattle.model.specs.Outcomes.{schemeFrom, handedFrom, MayUseOutcome, AccessListOutcome};
+use model::RosterRead;
+ghost use Rattle.model.specs.Outcomes.{schemeFrom, handedFrom, requestFrom, ReadRosterOutcome, RequestOutcome, MayUseOutcome, AccessListOutcome};
+
+// A roster card, read with its scheme into the lent roster.
+#[no_mangle]
+pub extern "C" fn read_roster(
+    commands: &[Command],
+    types: usize,
+    kinds: usize,
+    rights: usize,
+    card: &[u8],
+    roster: &mut [u32],
+) -> RosterRead
+    ensures { λ r. ⌜ ReadRosterOutcome (schemeFrom (now (commands .entry)) types kinds rights) (now (card .entry)) (now (roster .entry)) r (now (roster .exit)) ⌝ }
+{
+    let l = load(commands);
+    readers::read_roster(l, types, kinds, rights, card, roster)
+}
+
+// A command by a source person to a destination person, on the design with this code.
+#[no_mangle]
+pub extern "C" fn request(
+    commands: &[Command],
+    types: usize,
+    kinds: usize,
+    rights: usize,
+    roster: &[u32],
+    people: usize,
+    store: &mut [u32],
+    command: usize,
+    source: usize,
+    destination: usize,
+    code: &[u8],
+) -> u8
+    ensures { λ r. ⌜ RequestOutcome (handedFrom (schemeFrom (now (commands .entry)) types kinds rights) (now (roster .entry)) people (now (store .entry))) (requestFrom command source destination (now (code .entry))) r (now (store .exit)) ⌝ }
+{
+    let l = load(commands);
+    requests::request(
+        l,
+        types,
+        kinds,
+        rights,
+        roster,
+        people,
+        store,
+        command,
+        source,
+        destination,
+        code,
+    )
+}
 
 // May this person use this right on the design with this code?
 #[no_mangle]
