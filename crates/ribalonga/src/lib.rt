@@ -1,12 +1,74 @@
 // The public calls, and nothing else is public. Each takes every input, ends, and refuses bad input by its number; none has a
 // `requires`. Its contract is its named outcome in `model/specs/Outcomes`, an equation for the answer and for every lent word.
 // Each loads the lent list of commands and goes on by value.
+use cards::scheme::is_scheme_card;
+use cards::scheme::scheme_on;
+use lent::Filled;
 use lent::load;
+use lent::store_all;
 use model::AccessList;
 use model::Command;
 use model::MayUse;
 use model::RosterRead;
-ghost use Rattle.model.specs.Outcomes.{schemeFrom, handedFrom, requestFrom, ReadRosterOutcome, RequestOutcome, MayUseOutcome, AccessListOutcome};
+use model::SchemeRead;
+use schemes::empty;
+use schemes::is_valid;
+ghost use Rattle.model.specs.Outcomes.{schemeFrom, handedFrom, requestFrom, ReadSchemeOutcome, ReadRosterOutcome, RequestOutcome, MayUseOutcome, AccessListOutcome};
+ghost use Rattle.ribalonga.specs.Fills.{FillsScheme};
+ghost use mathlib.Core.Path.{_≡_};
+ghost use Rattle.schemes.specs.Loads.{unloaded};
+
+// The records that a scheme's list has room for.
+const MOST_COMMANDS: usize = 64;
+
+// A refused card: its number alone, and no command.
+fn unfilled(number: u8) -> Filled
+    ensures { λ r. ⌜ r ≡ record { answer = record { number = number; types = 0; kinds = 0; rights = 0; commands = 0 }; scheme = unloaded 0 0 0 } ⌝ }
+{
+    let scheme = empty(0, 0, 0);
+    let answer = SchemeRead {
+        number,
+        types: 0,
+        kinds: 0,
+        rights: 0,
+        commands: 0,
+    };
+    Filled { answer, scheme }
+}
+
+// What a scheme card gives to be written into a list with this room.
+fn scheme_filled(card: &[u8], room: usize) -> Filled
+    ensures { λ r. ⌜ FillsScheme (now (card .entry)) room r ⌝ }
+{
+    if room < MOST_COMMANDS {
+        return unfilled(20);
+    }
+    if !is_scheme_card(card) {
+        return unfilled(1);
+    }
+    let scheme = scheme_on(card);
+    if !is_valid(scheme) {
+        return unfilled(2);
+    }
+    let answer = SchemeRead {
+        number: 0,
+        types: scheme.types,
+        kinds: scheme.kinds,
+        rights: scheme.rights,
+        commands: scheme.count,
+    };
+    Filled { answer, scheme }
+}
+
+// A scheme card, read into the lent list of commands.
+#[no_mangle]
+pub extern "C" fn read_scheme(card: &[u8], commands: &mut [Command]) -> SchemeRead
+    ensures { λ r. ⌜ ReadSchemeOutcome (now (card .entry)) (now (commands .entry)) r (now (commands .exit)) ⌝ }
+{
+    let filled = scheme_filled(card, commands.len());
+    store_all(commands, filled.scheme);
+    filled.answer
+}
 
 // A roster card, read with its scheme into the lent roster.
 #[no_mangle]
