@@ -5,11 +5,11 @@ use schemes::Loaded;
 ghost use mathlib.Core.Bool.{not, _&&_};
 ghost use mathlib.Core.List.{List, _∷_};
 ghost use mathlib.Core.Path.{_≡_};
-ghost use Prim.Native.Nat.{_≤_};
+ghost use Prim.Native.Nat.{ℕ, _≤_};
 ghost use Rattle.model.specs.declared.Command.{Command};
 ghost use Rattle.model.specs.Sizes.{mostCommands};
 ghost use Rattle.model.specs.Rights.{within, common};
-ghost use Rattle.model.specs.Kinds.{isStep, propagation, firstNotNormal};
+ghost use Rattle.model.specs.Kinds.{isStep, propagation, both, firstNotNormal};
 ghost use Rattle.schemes.specs.Loads.{listed};
 ghost use Rattle.kinds.specs.Sets.{SetsOf};
 
@@ -47,6 +47,13 @@ pub fn sets_of(l: Loaded, kind: usize) -> Sets
         sets = with_command(sets, kind, l.commands[i]);
     }
     sets
+}
+
+// The rights that are both propagation and deletable.
+pub fn both_of(sets: Sets) -> u32
+    ensures { λ r. ⌜ ((commands : List Command) (kind : ℕ) → SetsOf commands kind sets → r ≡ both commands kind) ⌝ }
+{
+    rights::common(sets.propagation, sets.deletable)
 }
 
 // The command is a step of the kind, and takes a right of the set that it doesn't ask for.
