@@ -67,12 +67,9 @@ module _ (h : Handed) where
 
 -- ---- what an accepted one tells
 
-<<<<<<< HEAD
 pub is-accepted : (h : Handed) (b : Bool) → b ≡ hasRooms h → not b ≡ false → (n : ℕ) → n ≡ handedNumber h → n ≡ 0 → Accepted h
 is-accepted h b eb e n en z = record { rooms = sym eb ∙ not-false b e; number = sym en ∙ z }
 
-=======
->>>>>>> 520e3f9f8fbd1bb7530e359161ae5fb5dd3b1459
 pub record Sized (h : Handed) : Type 0 where
   pub roster-room : rosterRoom ≤ length (h .roster)
   pub store-room : storeRoom ≤ length (h .store)
