@@ -11,9 +11,11 @@ use model::Command;
 use model::MayUse;
 use model::RosterRead;
 use model::SchemeRead;
+use model::Verdict;
 use schemes::empty;
 use schemes::is_valid;
-ghost use Rattle.model.specs.Outcomes.{schemeFrom, handedFrom, requestFrom, ReadSchemeOutcome, ReadRosterOutcome, RequestOutcome, MayUseOutcome, AccessListOutcome};
+ghost use Rattle.model.specs.Outcomes.{schemeFrom, handedFrom, requestFrom, questionFrom, ReadSchemeOutcome, ReadRosterOutcome, RequestOutcome, MayUseOutcome, AccessListOutcome, VerdictOfCreateOutcome, VerdictOfDesignOutcome};
+ghost use Rattle.model.specs.Lines.{BatchWantedOutcome, VerdictWantedOutcome};
 ghost use Rattle.ribalonga.specs.Fills.{FillsScheme};
 ghost use mathlib.Core.Path.{_≡_};
 ghost use Rattle.schemes.specs.Loads.{unloaded};
@@ -167,4 +169,84 @@ pub extern "C" fn access_list(
 {
     let l = load(commands);
     questions::access_list(l, types, kinds, rights, roster, people, store, code, list)
+}
+
+// What a type of person can ever reach on a design that this create command makes.
+#[no_mangle]
+pub extern "C" fn verdict_of_create(
+    commands: &[Command],
+    types: usize,
+    kinds: usize,
+    rights: usize,
+    command: usize,
+    person_type: usize,
+    right: usize,
+    budget: usize,
+    table: &mut [u32],
+) -> Verdict
+    ensures { λ r. ⌜ VerdictOfCreateOutcome (schemeFrom (now (commands .entry)) types kinds rights) command (questionFrom «person_type» right budget) (now (table .entry)) r (now (table .exit)) ⌝ }
+{
+    let l = load(commands);
+    verdicts::calls::verdict_of_create(
+        l,
+        types,
+        kinds,
+        rights,
+        command,
+        person_type,
+        right,
+        budget,
+        table,
+    )
+}
+
+// What a type of person can ever reach on the design with this code, as it stands.
+#[no_mangle]
+pub extern "C" fn verdict_of_design(
+    commands: &[Command],
+    types: usize,
+    kinds: usize,
+    rights: usize,
+    roster: &[u32],
+    people: usize,
+    store: &[u32],
+    code: &[u8],
+    person_type: usize,
+    right: usize,
+    budget: usize,
+    table: &mut [u32],
+) -> Verdict
+    ensures { λ r. ⌜ VerdictOfDesignOutcome (handedFrom (schemeFrom (now (commands .entry)) types kinds rights) (now (roster .entry)) people (now (store .entry))) (now (code .entry)) (questionFrom «person_type» right budget) (now (table .entry)) r (now (table .exit)) ⌝ }
+{
+    let l = load(commands);
+    verdicts::calls::verdict_of_design(
+        l,
+        types,
+        kinds,
+        rights,
+        roster,
+        people,
+        store,
+        code,
+        person_type,
+        right,
+        budget,
+        table,
+    )
+}
+
+// How many more bytes the batch program must read.
+#[no_mangle]
+pub extern "C" fn batch_wanted(bytes: &[u8]) -> usize
+    ensures { λ r. ⌜ BatchWantedOutcome (now (bytes .entry)) r ⌝ }
+{
+    streams::batch_wanted(bytes)
+}
+
+// How many more bytes the verdict program must read.
+#[no_mangle]
+pub extern "C" fn verdict_wanted(bytes: &[u8]) -> usize
+    ensures { λ r. ⌜ VerdictWantedOutcome (now (bytes .entry)) r ⌝ }
+{
+    streams::verdict_wanted(bytes)
 }
