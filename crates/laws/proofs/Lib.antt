@@ -14,3 +14,4 @@ pub mod Listing
 pub mod Budgets
 pub mod Reach
 pub mod Verdicts
+pub mod Invalid

@@ -35,6 +35,18 @@ module _ {A : Type 0} where
       new when eqb number 0 else
       found
 
+-- ---- what a call is handed, put together
+
+-- "A scheme is handed over as a lent list of command records with its three counts."
+abbrev pub schemeFrom : List Command → ℕ → ℕ → ℕ → Scheme
+schemeFrom commands types kinds rights = record { types = types; kinds = kinds; rights = rights; commands = commands }
+
+abbrev pub requestFrom : ℕ → ℕ → ℕ → List ℕ → Request
+requestFrom command source destination code = record { command = command; source = source; destination = destination; code = code }
+
+abbrev pub questionFrom : ℕ → ℕ → ℕ → Question
+questionFrom type right budget = record { type = type; right = right; budget = budget }
+
 -- ---- read_scheme: 20, 1, 2
 
 unfoldable pub readSchemeNumber : List ℕ → List Command → ℕ
@@ -75,6 +87,9 @@ pub record Handed : Type 0 where
   pub count : ℕ
   pub roster : List ℕ
   pub store : List ℕ
+
+abbrev pub handedFrom : Scheme → List ℕ → ℕ → List ℕ → Handed
+handedFrom s roster people store = record { scheme = s; count = people; roster = roster; store = store }
 
 abbrev pub peopleIn : Handed → List Person
 peopleIn h = rosterOf (h .count) (h .roster)

@@ -1,6 +1,6 @@
 -- **needed**, by examples with a few people of one or two types, computed on the definitions.
 -- Assumes nothing.
-use Prim.Native.Nat.{ℕ, _-_}
+use Prim.Native.Nat.{ℕ, _-_, _<_}
 use Prim.Native.String.{String}
 use mathlib.Core.Bool.{Bool, true, false, not}
 use mathlib.Core.List.{List, [], _∷_, _++_}
@@ -11,18 +11,21 @@ use lib.ListN.{length, replicate}
 use Rattle.model.specs.declared.Command.{Command}
 use Rattle.model.specs.Words.{any, text}
 use Rattle.model.specs.Sizes.{rosterRoom, storeRoom}
+use Rattle.model.specs.Rights.{has}
 use Rattle.model.specs.Schemes.{Scheme}
-use Rattle.model.specs.Rosters.{Person, rosterWords}
+use Rattle.model.specs.Rosters.{Person, typeAt, rosterWords}
+use Rattle.model.specs.Forms.{cellAt}
 use Rattle.model.specs.Stores.{Design, storeWords}
 use Rattle.model.specs.Requests.{Request}
 use Rattle.model.specs.Kinds.{both, firstNotNormal}
 use Rattle.model.specs.Listing.{hasDuplicate}
-use Rattle.model.specs.Verdicts.{Start, rowsFrom}
+use Rattle.model.specs.Verdicts.{Start, rowsFrom, holds}
 use Rattle.model.specs.Outcomes.{Handed}
 use Rattle.model.specs.Mill.{command, schemeB}
 use Rattle.model.proofs.Computes.{computes}
 use Rattle.safety.specs.Histories.{Later, first, asks}
 use Rattle.safety.specs.Premises.{Begins, withDesign, withCreate}
+use Rattle.safety.specs.Promises.{cellsOf}
 use Rattle.safety.specs.Needed.{Moment, Breaks, Overlapping, NotOneRow}
 
 abbrev twoTypes : List Command → Scheme
@@ -72,23 +75,30 @@ moment {s} {people₀} {people} {designs₀} {designs} {code} {start} begins lat
   later = later;
 }
 
+breaks : {n a f u : Bool} (m : Moment n a f u) (type right person : ℕ)
+    → any (holds (record { type = type; right = right; budget = m .budget })) (rowsFrom (m .scheme .commands) (m .start) (m .budget)) ≡ false
+    → person < length (m .people) → typeAt (m .people) person ≡ type → has (cellAt (cellsOf (m .code) (m .designs)) person) right ≡ true → Breaks n a f u
+breaks m type right person not-listed present of-type holds-it = record {
+  moment = m;
+  type = type;
+  right = right;
+  not-listed = not-listed;
+  person = person;
+  present = present;
+  of-type = of-type;
+  holds-it = holds-it;
+}
+
 -- ---- a scheme that isn't normal: Bob, who holds nothing, gives Ann right 2, and nothing is taken of what she has
 
 abbrev taking : Scheme
 taking = twoTypes (command 1 0 0 0 0 0x3 ∷ command 2 0 0 0 0x3 0x4 ∷ command 2 0 1 0x5 0x2 0x1 ∷ [])
 
 pub without-normal : Breaks false true true true
-unfolding computes moment
-without-normal = record {
-  moment = moment (withCreate (handed three taking []) (asked 0 0 0) refl refl) (asks (asks first (asked 1 1 0)) (asked 2 0 2)) 2 refl refl refl refl;
-  type = 1;
-  right = 0;
-  not-listed = refl;
-  person = 2;
-  present = omega arith;
-  of-type = refl;
-  holds-it = refl;
-}
+unfolding computes moment breaks
+without-normal =
+    breaks
+    (moment (withCreate (handed three taking []) (asked 0 0 0) refl refl) (asks (asks first (asked 1 1 0)) (asked 2 0 2)) 2 refl refl refl refl) 1 0 2 refl (omega arith) refl refl
 
 -- ---- right 0 is handed on, or changed into right 1; who has both gets right 2. It takes two of right 0.
 
@@ -100,53 +110,30 @@ abbrev shared : Design
 shared = record { kind = 0; code = text "W"; cells = 0x1 ∷ 0x1 ∷ replicate 30 0 }
 
 pub without-apart : Breaks true false true true
-unfolding computes moment
-without-apart = record {
-  moment = moment (withDesign (handed three (twoTypes handing) (shared ∷ [])) (text "W") refl refl refl)
-      (asks (asks (asks first (asked 0 0 0)) (asked 1 1 0)) (asked 2 0 0)) 2 refl refl refl refl;
-  type = 0;
-  right = 2;
-  not-listed = refl;
-  person = 0;
-  present = omega arith;
-  of-type = refl;
-  holds-it = refl;
-}
+unfolding computes moment breaks
+without-apart =
+    breaks
+    (moment (withDesign (handed three (twoTypes handing) (shared ∷ [])) (text "W") refl refl refl) (asks (asks (asks first (asked 0 0 0)) (asked 1 1 0)) (asked 2 0 0)) 2 refl refl refl refl) 0 2 0 refl (omega arith) refl refl
 
 -- a scheme with a duplicate step: who has right 0 and right 3 gives another designer right 0 for right 3
 abbrev doubling : Scheme
 doubling = twoTypes (handing ++ (command 2 0 0 0x9 0x8 0x1 ∷ command 1 0 0 0 0 0x9 ∷ []))
 
 pub without-single : Breaks true true true false
-unfolding computes moment
-without-single = record {
-  moment = moment (withCreate (handed three doubling []) (asked 4 0 0) refl refl)
-      (asks (asks (asks (asks first (asked 3 0 1)) (asked 0 0 0)) (asked 1 1 0)) (asked 2 0 0)) 4 refl refl refl refl;
-  type = 0;
-  right = 2;
-  not-listed = refl;
-  person = 0;
-  present = omega arith;
-  of-type = refl;
-  holds-it = refl;
-}
+unfolding computes moment breaks
+without-single =
+    breaks
+    (moment (withCreate (handed three doubling []) (asked 4 0 0) refl refl) (asks (asks (asks (asks first (asked 3 0 1)) (asked 0 0 0)) (asked 1 1 0)) (asked 2 0 0)) 4 refl refl refl refl) 0 2 0 refl (omega arith) refl refl
 
 -- a listing that does not fit: write turns into ask-colour one state later than the budget goes
 abbrev slow : Scheme
 slow = twoTypes (command 1 0 0 0 0 0x1 ∷ command 3 0 0 0x1 0x1 0x2 ∷ command 3 0 0 0x2 0x2 0x4 ∷ [])
 
 pub without-fitting : Breaks true true false true
-unfolding computes moment
-without-fitting = record {
-  moment = moment (withCreate (handed three slow []) (asked 0 0 0) refl refl) (asks (asks first (asked 1 0 0)) (asked 2 0 0)) 1 refl refl refl refl;
-  type = 0;
-  right = 2;
-  not-listed = refl;
-  person = 0;
-  present = omega arith;
-  of-type = refl;
-  holds-it = refl;
-}
+unfolding computes moment breaks
+without-fitting =
+    breaks
+    (moment (withCreate (handed three slow []) (asked 0 0 0) refl refl) (asks (asks first (asked 1 0 0)) (asked 2 0 0)) 1 refl refl refl refl) 0 2 0 refl (omega arith) refl refl
 
 -- ---- scheme B has a duplicate step, and breaks *apart*: both of the lab hold review
 

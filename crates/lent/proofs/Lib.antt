@@ -1,0 +1,9 @@
+-- The rules and laws behind the proofs of this crate, and behind every door of another.
+pub mod Loads
+pub mod Walk
+pub mod Rows
+pub mod Pars
+pub mod Doors
+pub mod Lends
+pub mod Lents
+pub mod Fills

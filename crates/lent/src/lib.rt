@@ -1,0 +1,73 @@
+// The lent list of a scheme's commands: the few functions that read or write it. Each is proved by hand, since the borrow checker
+// covers no slice of structs. A public call loads the list into a scheme by value and goes on with that, and its proof is one line
+// over proofs/Doors.antt; the call that fills the list is over proofs/Fills.antt, and a way in for callers that have the commands by
+// value, as programs do, over proofs/Lents.antt. Inner functions: none is offered outside.
+use model::Command;
+use model::SchemeRead;
+use schemes::Loaded;
+use schemes::command_of;
+use schemes::empty;
+use schemes::push;
+ghost use mathlib.Core.Path.{_≡_};
+ghost use Prim.Native.Nat.{_<_, _≤_};
+ghost use lib.ListN.{length, take, set};
+ghost use Rattle.model.specs.Words.{writtenOver};
+ghost use Rattle.model.specs.Schemes.{commandIn};
+ghost use Rattle.lent.specs.Loads.{loadedOf};
+
+// How many commands are lent.
+pub fn count(commands: &[Command]) -> usize
+    ensures { λ r. ⌜ r ≡ length (now (commands .entry)) ⌝ }
+{
+    commands.len()
+}
+
+// The command at a place of the list.
+pub fn command_at(commands: &[Command], i: usize) -> Command
+    requires { ⌜ i < length (now commands) ⌝ }
+    ensures { λ r. ⌜ r ≡ commandIn (now (commands .entry)) i ⌝ }
+{
+    let c = commands[i];
+    c
+}
+
+// The command is written at a place of the list.
+pub fn store_at(commands: &mut [Command], i: usize, c: Command)
+    requires { ⌜ i < length (now commands) ⌝ }
+    ensures { λ _. ⌜ now (commands .exit) ≡ set (now (commands .entry)) i c ⌝ }
+{
+    commands[i] = c;
+}
+
+// The commands as a scheme by value whose three counts are still 0: the first 64 are kept, and all are counted.
+pub fn load(commands: &[Command]) -> Loaded
+    ensures { λ r. ⌜ r ≡ loadedOf (now (commands .entry)) ⌝ }
+{
+    let mut l = empty(0, 0, 0);
+    let mut i: usize = 0;
+    while i < commands.len() {
+        let c = commands[i];
+        l = push(l, c);
+        i += 1;
+    }
+    l
+}
+
+// The commands of a scheme by value, written from the list's beginning.
+pub fn store_all(commands: &mut [Command], l: Loaded)
+    requires { ⌜ (l .count ≤ 64) × (l .count ≤ length (now commands)) ⌝ }
+    ensures { λ _. ⌜ now (commands .exit) ≡ writtenOver (take (l .count) (l .commands)) (now (commands .entry)) ⌝ }
+{
+    let mut i: usize = 0;
+    while i < l.count {
+        let c = command_of(l, i);
+        commands[i] = c;
+        i += 1;
+    }
+}
+
+// What the call that fills the list goes on with: its answer, and the scheme whose commands it writes.
+pub struct Filled {
+    pub answer: SchemeRead,
+    pub scheme: Loaded,
+}

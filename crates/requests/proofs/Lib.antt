@@ -1,0 +1,4 @@
+-- The laws behind the proofs of this crate.
+pub mod Deciding
+pub mod Storing
+pub mod Answering

@@ -1,0 +1,170 @@
+// The public calls, and nothing else is public. Each takes every input, ends, and refuses bad input by its number; none has a
+// `requires`. Its contract is its named outcome in `model/specs/Outcomes`, an equation for the answer and for every lent word.
+// Each loads the lent list of commands and goes on by value.
+use cards::scheme::is_scheme_card;
+use cards::scheme::scheme_on;
+use lent::Filled;
+use lent::load;
+use lent::store_all;
+use model::AccessList;
+use model::Command;
+use model::MayUse;
+use model::RosterRead;
+use model::SchemeRead;
+use schemes::empty;
+use schemes::is_valid;
+ghost use Rattle.model.specs.Outcomes.{schemeFrom, handedFrom, requestFrom, ReadSchemeOutcome, ReadRosterOutcome, RequestOutcome, MayUseOutcome, AccessListOutcome};
+ghost use Rattle.ribalonga.specs.Fills.{FillsScheme};
+ghost use mathlib.Core.Path.{_≡_};
+ghost use Rattle.schemes.specs.Loads.{unloaded};
+
+// The records that a scheme's list has room for.
+const MOST_COMMANDS: usize = 64;
+
+// A refused card: its number alone, and no command.
+fn unfilled(number: u8) -> Filled
+    ensures { λ r. ⌜ r ≡ record { answer = record { number = number; types = 0; kinds = 0; rights = 0; commands = 0 }; scheme = unloaded 0 0 0 } ⌝ }
+{
+    let scheme = empty(0, 0, 0);
+    let answer = SchemeRead {
+        number,
+        types: 0,
+        kinds: 0,
+        rights: 0,
+        commands: 0,
+    };
+    Filled { answer, scheme }
+}
+
+// What a scheme card gives to be written into a list with this room.
+fn scheme_filled(card: &[u8], room: usize) -> Filled
+    ensures { λ r. ⌜ FillsScheme (now (card .entry)) room r ⌝ }
+{
+    if room < MOST_COMMANDS {
+        return unfilled(20);
+    }
+    if !is_scheme_card(card) {
+        return unfilled(1);
+    }
+    let scheme = scheme_on(card);
+    if !is_valid(scheme) {
+        return unfilled(2);
+    }
+    let answer = SchemeRead {
+        number: 0,
+        types: scheme.types,
+        kinds: scheme.kinds,
+        rights: scheme.rights,
+        commands: scheme.count,
+    };
+    Filled { answer, scheme }
+}
+
+// A scheme card, read into the lent list of commands.
+#[no_mangle]
+pub extern "C" fn read_scheme(card: &[u8], commands: &mut [Command]) -> SchemeRead
+    ensures { λ r. ⌜ ReadSchemeOutcome (now (card .entry)) (now (commands .entry)) r (now (commands .exit)) ⌝ }
+{
+    let filled = scheme_filled(card, commands.len());
+    store_all(commands, filled.scheme);
+    filled.answer
+}
+
+// A roster card, read with its scheme into the lent roster.
+#[no_mangle]
+pub extern "C" fn read_roster(
+    commands: &[Command],
+    types: usize,
+    kinds: usize,
+    rights: usize,
+    card: &[u8],
+    roster: &mut [u32],
+) -> RosterRead
+    ensures { λ r. ⌜ ReadRosterOutcome (schemeFrom (now (commands .entry)) types kinds rights) (now (card .entry)) (now (roster .entry)) r (now (roster .exit)) ⌝ }
+{
+    let l = load(commands);
+    readers::read_roster(l, types, kinds, rights, card, roster)
+}
+
+// A command by a source person to a destination person, on the design with this code.
+#[no_mangle]
+pub extern "C" fn request(
+    commands: &[Command],
+    types: usize,
+    kinds: usize,
+    rights: usize,
+    roster: &[u32],
+    people: usize,
+    store: &mut [u32],
+    command: usize,
+    source: usize,
+    destination: usize,
+    code: &[u8],
+) -> u8
+    ensures { λ r. ⌜ RequestOutcome (handedFrom (schemeFrom (now (commands .entry)) types kinds rights) (now (roster .entry)) people (now (store .entry))) (requestFrom command source destination (now (code .entry))) r (now (store .exit)) ⌝ }
+{
+    let l = load(commands);
+    requests::request(
+        l,
+        types,
+        kinds,
+        rights,
+        roster,
+        people,
+        store,
+        command,
+        source,
+        destination,
+        code,
+    )
+}
+
+// May this person use this right on the design with this code?
+#[no_mangle]
+pub extern "C" fn may_use(
+    commands: &[Command],
+    types: usize,
+    kinds: usize,
+    rights: usize,
+    roster: &[u32],
+    people: usize,
+    store: &[u32],
+    person: usize,
+    right: usize,
+    code: &[u8],
+) -> MayUse
+    ensures { λ r. ⌜ MayUseOutcome (handedFrom (schemeFrom (now (commands .entry)) types kinds rights) (now (roster .entry)) people (now (store .entry))) person right (now (code .entry)) r ⌝ }
+{
+    let l = load(commands);
+    questions::may_use(
+        l,
+        types,
+        kinds,
+        rights,
+        roster,
+        people,
+        store,
+        person,
+        right,
+        code,
+    )
+}
+
+// The access list of the design with this code.
+#[no_mangle]
+pub extern "C" fn access_list(
+    commands: &[Command],
+    types: usize,
+    kinds: usize,
+    rights: usize,
+    roster: &[u32],
+    people: usize,
+    store: &[u32],
+    code: &[u8],
+    list: &mut [u32],
+) -> AccessList
+    ensures { λ r. ⌜ AccessListOutcome (handedFrom (schemeFrom (now (commands .entry)) types kinds rights) (now (roster .entry)) people (now (store .entry))) (now (code .entry)) (now (list .entry)) r (now (list .exit)) ⌝ }
+{
+    let l = load(commands);
+    questions::access_list(l, types, kinds, rights, roster, people, store, code, list)
+}
