@@ -65,6 +65,31 @@ pub fn advance(
     }
 }
 
+// The same in place: the progress is lent, and moved on.
+pub fn step(p: &mut Progress, table: &mut [u32], budget: usize, kind: usize, row: Row, c: Command)
+    requires { ⌜ MayTry (now p) budget (now table) c ⌝ }
+    ensures { λ _. ⌜ Tried (tried kind c (row .cells) (groups rowWords (now (p .entry) .rows) (now (table .entry)))) budget (now (table .entry)) (now (p .entry)) (now (p .exit)) (now (table .exit)) ⌝ }
+{
+    *p = advance(*p, table, budget, kind, row, c);
+}
+
+// The progress is put where it can be lent, moved on in place, and handed back.
+pub fn stepped(
+    p: Progress,
+    table: &mut [u32],
+    budget: usize,
+    kind: usize,
+    row: Row,
+    c: Command,
+) -> Progress
+    requires { ⌜ MayTry p budget (now table) c ⌝ }
+    ensures { λ r. ⌜ Tried (tried kind c (row .cells) (groups rowWords (p .rows) (now (table .entry)))) budget (now (table .entry)) p r (now (table .exit)) ⌝ }
+{
+    let mut q = p;
+    step(&mut q, table, budget, kind, row, c);
+    q
+}
+
 // The row at hand is expanded: the commands are tried on it in scheme order, unless the search is cut.
 pub fn expanded(
     p: Progress,
@@ -87,7 +112,7 @@ pub fn expanded(
             return q;
         }
         let k = q.command;
-        q = advance(q, table, budget, kind, row, l.commands[k]);
+        q = stepped(q, table, budget, kind, row, l.commands[k]);
     }
     q
 }

@@ -40,14 +40,14 @@ returns c =
     expanding-cut (a .kind) (a .budget) (a .row .cells) (listed (a .t6)) (a .p .rows) (a .table .now) (l .q .command) (l .q .rows) (l .table)
     (l .inv .2) (c .if2 .taken)
 
-mul-advance : tie.Need-mul-advance Inv-loop μ-loop
-mul-advance c = omega arith
+mul-stepped : tie.Need-mul-stepped Inv-loop μ-loop
+mul-stepped c = omega arith
 
-element-copy-out-advance : tie.Need-element-copy-out-advance Inv-loop μ-loop
-element-copy-out-advance c = omega arith
+element-copy-out-stepped : tie.Need-element-copy-out-stepped Inv-loop μ-loop
+element-copy-out-stepped c = omega arith
 
-advance-requires : tie.Need-advance-requires Inv-loop μ-loop
-advance-requires c κs =
+stepped-requires : tie.Need-stepped-requires Inv-loop μ-loop
+stepped-requires c κs =
     let l = c .before .before .before .before .before .before .loop in
     let s = c .before .before .before .before .before .before .before .before in
     let k = in-row (s .args .t6) (l .inv .0 .1) (s .pre .1 .1) (l .q .command) (c .before .before .before .before .if1 .taken) in
@@ -62,10 +62,10 @@ loop-again c =
     let l = b .before .before .before .before .loop in
     let a = b .before .before .before .before .before .before .args in
     let k : l .q .command < a .t6 .count = b .before .before .if1 .taken in
-    let step = c .before .before .advance .ensures in
+    let step = c .before .before .stepped .ensures in
     let there = listed-at (a .t6) (l .inv .0 .1) (l .q .command) k (omega arith) in (
       l .inv .0,
-      (c .before .before .advance .kept .1 .0 ∙ l .inv .1 .0, omega arith),
+      (c .before .before .stepped .kept .1 .0 ∙ l .inv .1 .0, omega arith),
       rw (step .command)
           (expanding-goes-on (a .kind) (a .budget) (a .row .cells) (listed (a .t6)) (a .p .rows) (a .table .now) (omega arith) (omega arith) (l .inv .0 .0)
           (l .q .command) (l .q .rows) (l .table) _ _ (omega (arith, listed-length (a .t6) (l .inv .0 .1))) (l .inv .2) (b .if2 .left) (rw (sym there) at (step .lists))),
@@ -90,9 +90,9 @@ expanded-spec =
     loop-holds
     same-length
     returns
-    mul-advance
-    element-copy-out-advance
-    advance-requires
+    mul-stepped
+    element-copy-out-stepped
+    stepped-requires
     loop-less
     loop-again
     same-length-2
