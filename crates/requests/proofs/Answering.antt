@@ -7,7 +7,7 @@ use mathlib.Core.Logic.{by-cases}
 use mathlib.Core.List.{List}
 use native.Mathlib.Decide.{ℕ-discrete}
 use borrow.Author.Tests.{eq-eqb, ne-eqb, not-true, not-false}
-use Rattle.model.specs.Stores.{Design, storeOf, storeWords}
+use Rattle.model.specs.Stores.{Design, storeWords}
 use Rattle.model.specs.Requests.{Request, requestNumber, requested, carriedOut}
 use Rattle.model.specs.Outcomes.{Handed, peopleIn, designsIn, hasRooms, handedNumber, requestCallNumber, RequestOutcome}
 use Rattle.laws.proofs.Stores.{Words, Lent}

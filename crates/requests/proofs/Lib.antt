@@ -2,3 +2,5 @@
 pub mod Deciding
 pub mod Storing
 pub mod Answering
+pub mod Batching
+pub mod Exits
