@@ -7,6 +7,7 @@ use lent::Filled;
 use lent::load;
 use lent::store_all;
 use model::AccessList;
+use model::BatchRun;
 use model::Command;
 use model::MayUse;
 use model::RosterRead;
@@ -14,7 +15,7 @@ use model::SchemeRead;
 use model::Verdict;
 use schemes::empty;
 use schemes::is_valid;
-ghost use Rattle.model.specs.Outcomes.{schemeFrom, handedFrom, requestFrom, questionFrom, ReadSchemeOutcome, ReadRosterOutcome, RequestOutcome, MayUseOutcome, AccessListOutcome, VerdictOfCreateOutcome, VerdictOfDesignOutcome};
+ghost use Rattle.model.specs.Outcomes.{schemeFrom, handedFrom, requestFrom, questionFrom, ReadSchemeOutcome, ReadRosterOutcome, RequestOutcome, RunBatchOutcome, MayUseOutcome, AccessListOutcome, VerdictOfCreateOutcome, VerdictOfDesignOutcome};
 ghost use Rattle.model.specs.Lines.{BatchWantedOutcome, VerdictWantedOutcome};
 ghost use Rattle.ribalonga.specs.Fills.{FillsScheme};
 ghost use mathlib.Core.Path.{_≡_};
@@ -118,6 +119,35 @@ pub extern "C" fn request(
         source,
         destination,
         code,
+    )
+}
+
+// The requests of a batch card, one after the other, each with its answer.
+#[no_mangle]
+pub extern "C" fn run_batch(
+    commands: &[Command],
+    types: usize,
+    kinds: usize,
+    rights: usize,
+    roster: &[u32],
+    people: usize,
+    store: &mut [u32],
+    card: &[u8],
+    answers: &mut [u8],
+) -> BatchRun
+    ensures { λ r. ⌜ RunBatchOutcome (handedFrom (schemeFrom (now (commands .entry)) types kinds rights) (now (roster .entry)) people (now (store .entry))) (now (card .entry)) (now (answers .entry)) r (now (store .exit)) (now (answers .exit)) ⌝ }
+{
+    let l = load(commands);
+    requests::batch::run_batch(
+        l,
+        types,
+        kinds,
+        rights,
+        roster,
+        people,
+        store,
+        card,
+        answers,
     )
 }
 
