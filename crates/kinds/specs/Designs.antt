@@ -20,8 +20,8 @@ pub record Placed (people : ℕ) (roster store : List ℕ) (place : ℕ) : Type 
   pub there : place < length (storeOf store)
 
 -- the cells of the design
-abbrev pub cellsIn : List ℕ → ℕ → List ℕ
-cellsIn store place = getD (storeOf store) place noDesign .cells
+abbrev pub cellsAt : List ℕ → ℕ → List ℕ
+cellsAt store place = getD (storeOf store) place noDesign .cells
 
 -- two people have one type, and hold the same right of the set
 abbrev pub share : ℕ → List Person → List ℕ → ℕ → ℕ → Bool

@@ -6,7 +6,7 @@ ghost use Rattle.model.specs.declared.Command.{Command};
 ghost use Rattle.model.specs.Words.{any, numbersFrom};
 ghost use Rattle.model.specs.Rosters.{rosterOf};
 ghost use Rattle.model.specs.Kinds.{both, overlaps};
-ghost use Rattle.kinds.specs.Designs.{Placed, cellsIn, share, clashBy};
+ghost use Rattle.kinds.specs.Designs.{Placed, cellsAt, share, clashBy};
 
 // Two people have one type, and hold the same right of the set at the design.
 fn share(
@@ -19,7 +19,7 @@ fn share(
     b: usize,
 ) -> bool
     requires { ⌜ Placed people (now roster) (now store) place × ((a < people) × (b < people)) ⌝ }
-    ensures { λ r. ⌜ r ≡ share set (rosterOf people (now (roster .entry))) (cellsIn (now (store .entry)) place) a b ⌝ }
+    ensures { λ r. ⌜ r ≡ share set (rosterOf people (now (roster .entry))) (cellsAt (now (store .entry)) place) a b ⌝ }
 {
     if rosters::type_at(roster, a) != rosters::type_at(roster, b) {
         return false;
@@ -41,7 +41,7 @@ fn overlaps_behind(
     a: usize,
 ) -> bool
     requires { ⌜ Placed people (now roster) (now store) place × (a < people) ⌝ }
-    ensures { λ r. ⌜ r ≡ any (clashBy set (rosterOf people (now (roster .entry))) (cellsIn (now (store .entry)) place) a) (numbersFrom 0 people) ⌝ }
+    ensures { λ r. ⌜ r ≡ any (clashBy set (rosterOf people (now (roster .entry))) (cellsAt (now (store .entry)) place) a) (numbersFrom 0 people) ⌝ }
 {
     let mut b = a + 1;
     while b < people {
@@ -56,7 +56,7 @@ fn overlaps_behind(
 // Some two people overlap.
 pub fn overlaps(set: u32, roster: &[u32], people: usize, store: &[u32], place: usize) -> bool
     requires { ⌜ Placed people (now roster) (now store) place ⌝ }
-    ensures { λ r. ⌜ ((commands : List Command) (kind : ℕ) → set ≡ both commands kind → r ≡ overlaps commands kind (rosterOf people (now (roster .entry))) (cellsIn (now (store .entry)) place)) ⌝ }
+    ensures { λ r. ⌜ ((commands : List Command) (kind : ℕ) → set ≡ both commands kind → r ≡ overlaps commands kind (rosterOf people (now (roster .entry))) (cellsAt (now (store .entry)) place)) ⌝ }
 {
     for a in 0..people {
         if overlaps_behind(set, roster, people, store, place, a) {

@@ -7,7 +7,7 @@ ghost use Prim.Native.Nat.{_<_};
 ghost use Rattle.model.specs.Sizes.{rowWords};
 ghost use Rattle.model.specs.Rosters.{rosterOf};
 ghost use Rattle.model.specs.Kinds.{rowOfCreate, ofType, rowOfDesign};
-ghost use Rattle.kinds.specs.Designs.{Placed, cellsIn};
+ghost use Rattle.kinds.specs.Designs.{Placed, cellsAt};
 
 // A create command: Z at its source type.
 pub fn row_of_create(c: Command) -> Row
@@ -23,7 +23,7 @@ pub fn row_of_create(c: Command) -> Row
 // All rights of the type's people at the design, put together from the last person on.
 pub fn of_type(roster: &[u32], people: usize, store: &[u32], place: usize, t: usize) -> u32
     requires { ⌜ Placed people (now roster) (now store) place ⌝ }
-    ensures { λ r. ⌜ r ≡ ofType (rosterOf people (now (roster .entry))) (cellsIn (now (store .entry)) place) t ⌝ }
+    ensures { λ r. ⌜ r ≡ ofType (rosterOf people (now (roster .entry))) (cellsAt (now (store .entry)) place) t ⌝ }
 {
     let mut set = 0;
     let mut p = people;
@@ -39,7 +39,7 @@ pub fn of_type(roster: &[u32], people: usize, store: &[u32], place: usize, t: us
 // A design in the store: at each type, all rights of its people.
 pub fn row_of_design(roster: &[u32], people: usize, store: &[u32], place: usize) -> Row
     requires { ⌜ Placed people (now roster) (now store) place ⌝ }
-    ensures { λ r. ⌜ r .cells ≡ rowOfDesign (rosterOf people (now (roster .entry))) (cellsIn (now (store .entry)) place) ⌝ }
+    ensures { λ r. ⌜ r .cells ≡ rowOfDesign (rosterOf people (now (roster .entry))) (cellsAt (now (store .entry)) place) ⌝ }
 {
     let mut cells = [0u32; ROW_WORDS];
     for t in 0..ROW_WORDS {

@@ -9,14 +9,14 @@ use lib.ListN.{take}
 use Rattle.model.specs.Words.{any, numbersFrom}
 use Rattle.model.specs.Rosters.{rosterOf}
 use Rattle.rosters.proofs.People.{length-roster}
-use Rattle.kinds.specs.Designs.{cellsIn, clashBy}
+use Rattle.kinds.specs.Designs.{cellsAt, clashBy}
 use Rattle.kinds.proofs.People.{none-yet, some-one, none-at-all, overlaps-by}
 use Rattle.kinds.proofs.overlap.overlaps.Statement.{statement}
 use Rattle.kinds.proofs.overlap.overlaps.Tie as tie
 
 -- the person clashes with somebody
 abbrev clashes : ℕ → List ℕ → ℕ → List ℕ → ℕ → ℕ → Bool
-clashes set roster people store place a = any (clashBy set (rosterOf people roster) (cellsIn store place) a) (numbersFrom 0 people)
+clashes set roster people store place a = any (clashBy set (rosterOf people roster) (cellsAt store place) a) (numbersFrom 0 people)
 
 abbrev Inv-loop : tie.InvT-loop
 Inv-loop set roster people store place a₀ a = (a ≤ people) × (any (clashes set roster people store place) (take a (numbersFrom 0 people)) ≡ false)
@@ -36,7 +36,7 @@ returns c commands kind e =
     let a = b .before .before .before .args in
     sym (some-one (clashes (a .set) (a .roster .now) (a .people) (a .store .now) (a .place)) (a .people) (b .loop .a) (omega arith)
     (rw (← c .before .overlaps-behind .ensures) (c .if1 .taken)))
-    ∙ overlaps-by (a .set) (rosterOf (a .people) (a .roster .now)) (cellsIn (a .store .now) (a .place)) commands kind (a .people) e
+    ∙ overlaps-by (a .set) (rosterOf (a .people) (a .roster .now)) (cellsAt (a .store .now) (a .place)) commands kind (a .people) e
     (sym (length-roster (a .people) (a .roster .now)))
 
 add-a : tie.Need-add-a Inv-loop μ-loop
@@ -59,7 +59,7 @@ returns-2 c commands kind e =
     let b = c .before in
     let a = b .before .before .before .args in
     sym (none-at-all (clashes (a .set) (a .roster .now) (a .people) (a .store .now) (a .place)) (a .people) (b .loop .a) (omega arith) (b .loop .inv .1))
-    ∙ overlaps-by (a .set) (rosterOf (a .people) (a .roster .now)) (cellsIn (a .store .now) (a .place)) commands kind (a .people) e
+    ∙ overlaps-by (a .set) (rosterOf (a .people) (a .roster .now)) (cellsAt (a .store .now) (a .place)) commands kind (a .people) e
     (sym (length-roster (a .people) (a .roster .now)))
 
 pub overlaps-spec : {M : Type 1} → statement M

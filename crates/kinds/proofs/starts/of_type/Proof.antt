@@ -6,13 +6,13 @@ use native.Mathlib.Omega.{arith}
 use borrow.Author.Needs.{needs}
 use Rattle.model.specs.Rosters.{rosterOf}
 use Rattle.rosters.proofs.People.{length-roster}
-use Rattle.kinds.specs.Designs.{cellsIn}
+use Rattle.kinds.specs.Designs.{cellsAt}
 use Rattle.kinds.proofs.People.{rightsFrom, rights-of-none, rights-of-all, rights-of-one, rights-of-others}
 use Rattle.kinds.proofs.starts.of_type.Statement.{statement}
 use Rattle.kinds.proofs.starts.of_type.Tie as tie
 
 abbrev Inv-loop : tie.InvT-loop
-Inv-loop roster people store place t set₀ p₀ set p = (p ≤ people) × (set ≡ rightsFrom (rosterOf people roster) (cellsIn store place) t p)
+Inv-loop roster people store place t set₀ p₀ set p = (p ≤ people) × (set ≡ rightsFrom (rosterOf people roster) (cellsAt store place) t p)
 
 abbrev μ-loop : tie.MeasureT-loop
 μ-loop roster people store place t set₀ p₀ set p = p
@@ -21,7 +21,7 @@ loop-holds : tie.Need-loop-holds Inv-loop μ-loop
 loop-holds c =
     let a = c .before .before .args in
     let people = rosterOf (a .people) (a .roster .now) in
-    (omega arith, sym (rights-of-none people (cellsIn (a .store .now) (a .place)) (a .t) (a .people) (omega (arith, length-roster (a .people) (a .roster .now)))))
+    (omega arith, sym (rights-of-none people (cellsAt (a .store .now) (a .place)) (a .t) (a .people) (omega (arith, length-roster (a .people) (a .roster .now)))))
 
 sub-p : tie.Need-sub-p Inv-loop μ-loop
 sub-p c = omega arith
@@ -43,7 +43,7 @@ loop-again c =
     let b = c .before .before .before .before .before in
     let a = b .before .before .before .args in
     let people = rosterOf (a .people) (a .roster .now) in
-    let cells = cellsIn (a .store .now) (a .place) in
+    let cells = cellsAt (a .store .now) (a .place) in
     let i = b .loop .p - 1 in
     let next : suc i ≡ b .loop .p = omega arith in
     let type-is = sym (c .before .before .before .type-at .ensures (a .people) (omega arith)) ∙ c .before .before .if1 .taken in
@@ -58,7 +58,7 @@ loop-again-2 c =
     let b = c .before .before .before in
     let a = b .before .before .before .args in
     let people = rosterOf (a .people) (a .roster .now) in
-    let cells = cellsIn (a .store .now) (a .place) in
+    let cells = cellsAt (a .store .now) (a .place) in
     let i = b .loop .p - 1 in
     let next : suc i ≡ b .loop .p = omega arith in
     let type-is = c .before .type-at .ensures (a .people) (omega arith) in

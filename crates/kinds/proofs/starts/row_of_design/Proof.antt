@@ -10,14 +10,14 @@ use Rattle.model.specs.Rosters.{rosterOf}
 use Rattle.model.specs.Kinds.{rowOfDesign}
 use Rattle.laws.proofs.KindSets.{row-at}
 use Rattle.listing.proofs.Copied.{copied-more, copied-whole}
-use Rattle.kinds.specs.Designs.{cellsIn}
+use Rattle.kinds.specs.Designs.{cellsAt}
 use Rattle.kinds.proofs.People.{length-row}
 use Rattle.kinds.proofs.starts.row_of_design.Statement.{statement}
 use Rattle.kinds.proofs.starts.row_of_design.Tie as tie
 
 abbrev Inv-loop : tie.InvT-loop
 Inv-loop roster people store place cells₀ t₀ cells t =
-    ((t ≤ 8) × (length cells₀ ≡ 8)) × (cells ≡ writtenOver (take t (rowOfDesign (rosterOf people roster) (cellsIn store place))) cells₀)
+    ((t ≤ 8) × (length cells₀ ≡ 8)) × (cells ≡ writtenOver (take t (rowOfDesign (rosterOf people roster) (cellsAt store place))) cells₀)
 
 abbrev μ-loop : tie.MeasureT-loop
 μ-loop roster people store place cells₀ t₀ cells t = 8 - t
@@ -46,7 +46,7 @@ loop-again c =
     let b = c .before .before in
     let a = b .before .before .before .args in
     let people = rosterOf (a .people) (a .roster .now) in
-    let cells = cellsIn (a .store .now) (a .place) in
+    let cells = cellsAt (a .store .now) (a .place) in
     let row = rowOfDesign people cells in
     let here = row-at people cells (b .loop .t) (omega arith) in (
       (omega arith, refl),
@@ -58,7 +58,7 @@ returns c =
     let b = c .before in
     let a = b .before .before .before .args in
     let people = rosterOf (a .people) (a .roster .now) in
-    let cells = cellsIn (a .store .now) (a .place) in
+    let cells = cellsAt (a .store .now) (a .place) in
     let row = rowOfDesign people cells in
     b .loop .inv .1 ∙ rw (take-all (b .loop .t) row (omega (arith, length-row people cells))) (copied-whole row _ (omega (arith, length-row people cells)))
 
