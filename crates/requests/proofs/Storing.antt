@@ -74,10 +74,14 @@ created-words w fit room few c source code words ew at k new ea ek en =
 
 -- ---- two cells
 
-pub acted : (c : Command) (w : List ℕ) (a d a' d' v u : ℕ) → a ≡ a' → d ≡ d' → v ≡ without (getD w a 0) (c .y)
-    → u ≡ withThose (getD (set w a v) d 0) (c .z) → set (set w a v) d u ≡ act c a' d' w
-unfolding act gain lose
-acted c w a d a' d' v u ea ed ev eu = rw (eu, ev, ea, ed)
+module _ (c : Command) (w : List ℕ) (at v : ℕ) where
+  pub lost : v ≡ without (getD w at 0) (c .y) → set w at v ≡ lose c at w
+  unfolding lose
+  lost e = rw e
+
+  pub gained : v ≡ withThose (getD w at 0) (c .z) → set w at v ≡ gain c at w
+  unfolding gain
+  gained e = rw e
 
 -- ---- the request
 

@@ -28,9 +28,9 @@ pub fn answered(
     requires { ⌜ Accepted (handedBy l people (now roster) (now store)) ⌝ }
     ensures { λ r. ⌜ Answered (handedBy l people (now (roster .entry)) (now (store .entry))) (asked command source destination (now (code .entry))) r (now (store .exit)) ⌝ }
 {
-    let number = request_number(l, people, roster, store, command, source, destination, code);
-    if number != 0 {
-        return number;
+    let answer = request_number(l, people, roster, store, command, source, destination, code);
+    if answer != 0 {
+        return answer;
     }
     carry_out(l, store, command, source, destination, code);
     0

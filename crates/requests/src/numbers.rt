@@ -66,7 +66,8 @@ fn create_number(store: &[u32], code: &[u8]) -> u8
     ensures { λ r. ⌜ r ≡ createNumber (storeOf (now (store .entry))) (now (code .entry)) ⌝ }
 {
     let count = design_count(store);
-    if place_named(store, code) < count {
+    let place = place_named(store, code);
+    if place < count {
         return 10;
     }
     if MOST_DESIGNS <= count {

@@ -14,7 +14,7 @@ ghost use mathlib.Core.List.{[], _∷_, _++_};
 ghost use Prim.Native.Nat.{_+_, _*_, _≤_, _<_};
 ghost use lib.ListN.{length, replicate};
 ghost use Rattle.model.specs.Sizes.{mostPeople, storeRoom};
-ghost use Rattle.model.specs.Forms.{act, created};
+ghost use Rattle.model.specs.Forms.{lose, gain, act, created};
 ghost use Rattle.model.specs.Stores.{storeOf, storeWords};
 ghost use Rattle.model.specs.Requests.{newDesign, carriedOut};
 ghost use Rattle.schemes.specs.Loads.{schemeIn};
@@ -61,6 +61,22 @@ fn create(c: Command, store: &mut [u32], source: usize, code: &[u8])
     write_design(&mut store[at..end], c, pack(code), source);
 }
 
+// A cell loses Y.
+fn lose(c: Command, store: &mut [u32], at: usize)
+    requires { ⌜ at < length (now store) ⌝ }
+    ensures { λ _. ⌜ now (store .exit) ≡ lose c at (now (store .entry)) ⌝ }
+{
+    store[at] = after_loss(c, store[at]);
+}
+
+// A cell gains Z.
+fn gain(c: Command, store: &mut [u32], at: usize)
+    requires { ⌜ at < length (now store) ⌝ }
+    ensures { λ _. ⌜ now (store .exit) ≡ gain c at (now (store .entry)) ⌝ }
+{
+    store[at] = after_gain(c, store[at]);
+}
+
 // A grant or an internal: the source cell loses Y, then the destination cell gains Z.
 fn act(c: Command, store: &mut [u32], place: usize, source: usize, destination: usize)
     requires { ⌜ (storeRoom ≤ length (now store)) × (place < 64) × (source < 32) × (destination < 32) ⌝ }
@@ -69,8 +85,8 @@ fn act(c: Command, store: &mut [u32], place: usize, source: usize, destination: 
     let cells = place * DESIGN_WORDS + 1 + FIRST_CELL;
     let from = cells + source;
     let to = cells + destination;
-    store[from] = after_loss(c, store[from]);
-    store[to] = after_gain(c, store[to]);
+    lose(c, store, from);
+    gain(c, store, to);
 }
 
 // The request, carried out.
