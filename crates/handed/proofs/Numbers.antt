@@ -2,7 +2,7 @@
 -- and what an accepted one tells.
 -- Assumes nothing.
 use Prim.Native.Nat.{ℕ, _≤_, _<_}
-use mathlib.Core.Path.{_≡_, refl, sym, _∙_}
+use mathlib.Core.Path.{_≡_, sym, _∙_}
 use mathlib.Core.Bool.{Bool, true, false, not}
 use mathlib.Core.List.{List}
 use native.Mathlib.Omega.{arith}
@@ -66,6 +66,9 @@ module _ (h : Handed) where
         store-decides z = rw (zero-scheme, ← en, z)
 
 -- ---- what an accepted one tells
+
+pub is-accepted : (h : Handed) (b : Bool) → b ≡ hasRooms h → not b ≡ false → (n : ℕ) → n ≡ handedNumber h → n ≡ 0 → Accepted h
+is-accepted h b eb e n en z = record { rooms = sym eb ∙ not-false b e; number = sym en ∙ z }
 
 pub record Sized (h : Handed) : Type 0 where
   pub roster-room : rosterRoom ≤ length (h .roster)

@@ -1,0 +1,121 @@
+-- The lent words of a store after a request that is carried out, from what each function wrote: a cleared run of words, a new design's place, two cells.
+-- Assumes nothing.
+use Prim.Native.Nat.{ℕ, suc, _+_, _*_, _≤_, _<_}
+use mathlib.Core.Path.{_≡_, refl, sym, ap, _∙_}
+use mathlib.Core.List.{List, [], _∷_, _++_, append-assoc, append-nil}
+use native.Mathlib.Omega.{arith}
+use borrow.Author.Tests.{eq-eqb, ne-eqb}
+use lib.ListN.{length, getD, take, drop, set, replicate, length-replicate, replicate-append-replicate, drop-of-length-le}
+use lib.Seq.{take-all, drop-drop}
+use Rattle.model.specs.declared.Command.{Command}
+use Rattle.model.specs.declared.Code.{Code}
+use Rattle.model.specs.Words.{writtenOver}
+use Rattle.model.specs.Rights.{without, withThose}
+use Rattle.model.specs.Codes.{packed}
+use Rattle.model.specs.Schemes.{Scheme, commandAt}
+use Rattle.model.specs.Forms.{lose, gain, act, created}
+use Rattle.model.specs.Stores.{Design, placeOf, storeOf, storeWords}
+use Rattle.model.specs.Requests.{Request, newDesign, carriedOut}
+use Rattle.laws.proofs.Lists.{written-snoc}
+use Rattle.laws.proofs.Forms.{created-length}
+use Rattle.laws.proofs.Stores.{Words, Lent, store-length, create-written}
+use Rattle.laws.proofs.Requests.{Admitted, Creates, Acts, admits, creates, acts, requested-done}
+use Rattle.laws.proofs.Untouched.{act-words}
+use Rattle.requests.specs.Asking.{asked, Allowed}
+
+-- ---- a cleared run of words
+
+module _ (w : List ℕ) (i : ℕ) where
+  pub cleared-more : i < length w → set (writtenOver (replicate i 0) w) i 0 ≡ writtenOver (replicate (i + 1) 0) w
+  cleared-more l =
+      let zeros : List ℕ = replicate i 0 in
+      let n : length zeros ≡ i = length-replicate {A = ℕ} i 0 in
+      let more : zeros ++ 0 ∷ [] ≡ replicate (i + 1) 0 = replicate-append-replicate {A = ℕ} i 1 0 in
+      ap (λ (k : ℕ). set (writtenOver zeros w) k 0) (sym n) ∙ sym (written-snoc zeros w 0 (omega arith)) ∙ ap (λ (r : List ℕ). writtenOver r w) more
+
+  pub cleared : i ≤ length w → length w ≤ i → writtenOver (replicate i 0) w ≡ replicate (length w) 0
+  unfolding writtenOver
+  cleared l m =
+      let e : i ≡ length w = omega arith in
+      rw (length-replicate {A = ℕ} i 0, drop-of-length-le w {i = i} m, append-nil {A = ℕ} (replicate i 0), e)
+
+-- ---- a new design
+
+pub design-words : (w zeros : List ℕ) (c : Command) (code : Code) (source : ℕ) → length w ≡ 36 → zeros ≡ replicate (length w) 0
+    → set (set (set (set (set zeros 0 (c .kind)) 1 (code .a)) 2 (code .b)) 3 (code .c)) (4 + source) (c .z)
+    ≡ c .kind ∷ code .a ∷ code .b ∷ code .c ∷ created c source 32
+unfolding created
+design-words w zeros c code source l e =
+    let place : 4 + source ≡ suc (suc (suc (suc source))) = omega arith in
+    rw (e, l, place) refl
+
+pub created-words : (w : List ℕ) → Words w → 2305 ≤ length w → length (storeOf w) < 64
+    → (c : Command) (source : ℕ) (code : List ℕ) (words : Code) → words ≡ packed code
+    → (at k : ℕ) (new : List ℕ) → at ≡ 1 + getD w 0 0 * 36 → k ≡ 36
+    → new ≡ c .kind ∷ words .a ∷ words .b ∷ words .c ∷ created c source 32
+    → let counted = set w 0 (getD w 0 0 + 1) in
+    take at counted ++ (new ++ drop k (drop at counted)) ≡ storeWords (storeOf w ++ newDesign c (asked 0 source source code) ∷ []) w
+created-words w fit room few c source code words ew at k new ea ek en =
+    let lent : Lent w = record { fit = fit; few = omega (arith, store-length w); room = room } in
+    let size = created-length c source 32 in
+    let n = getD w 0 0 in
+    let place = 1 + n * 36 in
+    let design : List ℕ = c .kind ∷ packed code .a ∷ packed code .b ∷ packed code .c ∷ created c source 32 in
+    rw (
+      en,
+      ew,
+      ea,
+      ek,
+      create-written w lent (newDesign c (asked 0 source source code)) size,
+      take-all 36 design (omega arith),
+      drop-drop 36 place (set w 0 (n + 1)),
+    )
+    (sym (append-assoc (take place (set w 0 (n + 1))) design (drop (place + 36) (set w 0 (n + 1)))))
+
+-- ---- two cells
+
+pub acted : (c : Command) (w : List ℕ) (a d a' d' v u : ℕ) → a ≡ a' → d ≡ d' → v ≡ without (getD w a 0) (c .y)
+    → u ≡ withThose (getD (set w a v) d 0) (c .z) → set (set w a v) d u ≡ act c a' d' w
+unfolding act gain lose
+acted c w a d a' d' v u ea ed ev eu = rw (eu, ev, ea, ed)
+
+-- ---- the request
+
+module _ (s : Scheme) (w : List ℕ) (q : Request) (k : Allowed s w q) where
+  abbrev named : Command
+  named = commandAt s (q .command)
+
+  pub passed : Admitted s (k .people) q
+  passed = admits s (k .people) (storeOf w) q (k .number)
+
+  pub source-few : q .source < 32
+  source-few = omega (arith, passed .source, k .most)
+
+  pub destination-few : q .destination < 32
+  destination-few = omega (arith, passed .destination, k .most)
+
+  module _ (c : Command) (ec : c ≡ named) where
+    creating : c .form ≡ 1 → Creates s (k .people) (storeOf w) q
+    creating e = creates s (k .people) (storeOf w) q (eq-eqb (named .form) 1 (sym (ap (λ (d : Command). d .form) ec) ∙ e)) (k .number)
+
+    acting : (c .form ≡ 1 → ⊥) → Acts s (k .people) (storeOf w) q
+    acting e = acts s (k .people) (storeOf w) q (ne-eqb (named .form) 1 (λ z. e (ap (λ (d : Command). d .form) ec ∙ z))) (k .number)
+
+    pub create-room : c .form ≡ 1 → length (storeOf w) < 64
+    create-room e = creating e .room
+
+    pub act-place : (c .form ≡ 1 → ⊥) → (place : ℕ) → place ≡ placeOf (q .code) (storeOf w) → place < 64
+    act-place e place ep = omega (arith, acting e .present, k .designs)
+
+    pub create-carried : c .form ≡ 1 → storeWords (storeOf w ++ newDesign c (asked 0 (q .source) (q .source) (q .code)) ∷ []) w
+        ≡ storeWords (carriedOut s (storeOf w) q) w
+    unfolding carriedOut
+    create-carried e = rw (← ec, eq-eqb (c .form) 1 e)
+
+    pub act-carried : Words w → (c .form ≡ 1 → ⊥) → (place : ℕ) → place ≡ placeOf (q .code) (storeOf w)
+        → act c (5 + place * 36 + q .source) (5 + place * 36 + q .destination) w ≡ storeWords (carriedOut s (storeOf w) q) w
+    act-carried fit e place ep =
+        let lent : Lent w = record { fit = fit; few = omega (arith, store-length w, k .designs); room = k .room } in
+        rw (ec, ep)
+        (sym (act-words s (k .people) w lent q (k .most) (acting e))
+        ∙ ap (λ (r : List Design). storeWords r w) (requested-done s (k .people) (storeOf w) q (k .number)))
