@@ -2,14 +2,14 @@
 -- Assumes nothing.
 use Prim.Native.Nat.{ℕ, _≤_, _<_}
 use mathlib.Core.Bool.{not}
-use mathlib.Core.List.{List, [], map}
+use mathlib.Core.List.{List, [], _∷_, _++_, map}
 use lib.Dec.{eqb}
 use lib.ListN.{length, getD, take}
 use Rattle.model.specs.Words.{_when_else_, joined, those, numbersFrom}
 use Rattle.model.specs.Rosters.{Person, rosterOf}
 use Rattle.model.specs.Forms.{cellAt}
 use Rattle.model.specs.Stores.{Design, noDesign, storeOf}
-use Rattle.model.specs.Lines.{linesR, lineP, linesD}
+use Rattle.model.specs.Lines.{decimal, line, linesR, lineP, linesD}
 
 -- the lines of the first i answers
 abbrev pub answersText : List ℕ → ℕ → List ℕ
@@ -42,3 +42,8 @@ designIn store place = getD (storeOf store) place noDesign
 -- every kind is a number that can be printed
 abbrev pub KindsFit : List ℕ → Type 0
 KindsFit store = (place : ℕ) → place < length (storeOf store) → designIn store place .kind < 10000
+
+-- the lines of a batch that was run, by what it left: the answers, the designs, and the two counts
+abbrev pub runParts : List Person → List Design → List ℕ → ℕ → ℕ → List ℕ
+runParts people designs answers requests done =
+    answersText answers requests ++ designsText people designs (length designs) ++ line "E" (decimal requests ∷ decimal done ∷ [])
