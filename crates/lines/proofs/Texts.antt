@@ -1,11 +1,11 @@
 -- A lent text, with one thing after the other put into it: the parts compose.
 -- Assumes nothing.
-use Prim.Native.Nat.{ℕ, suc, _+_, _≤_, _<_}
+use Prim.Native.Nat.{ℕ, _+_, _≤_, _<_}
 use mathlib.Core.List.{List, [], _∷_, _++_, append-nil, append-assoc}
-use mathlib.Core.Path.{_≡_, refl, sym, ap, _∙_}
+use mathlib.Core.Path.{_≡_, sym, ap, _∙_}
 use native.Mathlib.Numerals.{add-one}
 use native.Mathlib.Omega.{arith}
-use lib.ListN.{length, getD, take, drop, set, length-append, length-take}
+use lib.ListN.{length, getD, take, set, length-append, length-take}
 use lib.Seq.{length-take-le, take-suc}
 use Rattle.model.specs.Words.{writtenOver}
 use Rattle.laws.proofs.Lists.{length-written, take-written, written-snoc, written-own, written-again}

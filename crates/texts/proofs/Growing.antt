@@ -1,8 +1,8 @@
 -- A text that is put part after part: how far it reaches, and that the next part still has room.
 -- Assumes nothing.
 use Prim.Native.Nat.{ℕ, zero, suc, _+_, _≤_, _<_}
-use mathlib.Core.List.{List, [], _++_}
-use mathlib.Core.Path.{_≡_, refl, sym, ap, _∙_}
+use mathlib.Core.List.{List, _++_}
+use mathlib.Core.Path.{_≡_, ap}
 use native.Mathlib.Numerals.{add-one}
 use native.Mathlib.Omega.{arith}
 use borrow.Author.Tests.{leb-true, leb-false}
@@ -10,7 +10,7 @@ use lib.Dec.{leb}
 use lib.ListN.{length, length-append}
 use Rattle.laws.proofs.Tests.{by-test}
 use Rattle.lines.specs.Lines.{Put}
-use Rattle.lines.proofs.Texts.{put-none, put-put, put-length}
+use Rattle.lines.proofs.Texts.{put-put, put-length}
 
 -- each text is the one before it and one part more
 module _ (texts part : ℕ → List ℕ) where

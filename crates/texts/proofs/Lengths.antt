@@ -1,16 +1,16 @@
 -- How long the lines are, by the longest of each letter, and that the batch program's text has room in what the sizes allow.
 -- Assumes nothing.
-use Prim.Native.Nat.{ℕ, zero, suc, _+_, _*_, _≤_, _<_}
+use Prim.Native.Nat.{ℕ, suc, _+_, _*_, _≤_, _<_}
 use Prim.Native.String.{String}
 use mathlib.Core.Bool.{Bool, true, false, not, cond, _&&_}
-use mathlib.Core.List.{List, [], _∷_, _++_, map}
+use mathlib.Core.List.{List, [], _∷_, map}
 use mathlib.Core.Path.{_≡_}
 use native.Mathlib.Omega.{arith}
 use borrow.Author.Tests.{ltb-true, ltb-false}
 use lib.Dec.{leb, ltb, eqb}
 use lib.ListN.{length, getD, length-append, List·getD-eq-default}
 use Rattle.model.specs.declared.Command.{Command}
-use Rattle.model.specs.Words.{joined, those, numbersFrom, text}
+use Rattle.model.specs.Words.{joined, numbersFrom, text}
 use Rattle.model.specs.Codes.{spelled}
 use Rattle.model.specs.Schemes.{Scheme, isCreate, commandAt}
 use Rattle.model.specs.Rosters.{Person, nobody, typeAt}

@@ -1,26 +1,25 @@
 -- What a batch that starts with an empty store leaves, by the outcome of its call: the text's parts, and that they have room.
 -- Assumes nothing.
-use Prim.Native.Nat.{ℕ, _+_, _*_, _≤_, _<_}
-use mathlib.Core.List.{List, [], _∷_, _++_, map}
+use Prim.Native.Nat.{ℕ, _≤_, _<_}
+use mathlib.Core.List.{List, [], _++_, map}
 use mathlib.Core.Path.{_≡_, refl, sym, ap, _∙_}
 use native.Mathlib.Omega.{arith}
 use borrow.Author.Tests.{eqb-true, le-leb}
 use lib.Dec.{eqb}
-use lib.ListN.{length, getD, take, drop, length-append, length-map}
+use lib.ListN.{length, getD, drop, length-append, length-map}
 use Rattle.model.specs.declared.BatchRun.{BatchRun}
 use Rattle.model.specs.Words.{_then_, joined, writtenOver}
-use Rattle.model.specs.Sizes.{rosterRoom, storeRoom, mostRequests}
 use Rattle.model.specs.Schemes.{Scheme, schemeNumber}
 use Rattle.model.specs.Rosters.{Person, rosterOf, rosterNumber}
 use Rattle.model.specs.Stores.{Design, noDesign, storeOf, storeWords, isSound, storeNumber}
 use Rattle.model.specs.Requests.{batchNumbers, batched, countDone}
 use Rattle.model.specs.Cards.{body, requestCount, requestsOf, isBatchCard, batchCardNumber}
-use Rattle.model.specs.Outcomes.{Handed, peopleIn, hasRooms, handedNumber, runBatchNumber, batchRun, RunBatchOutcome}
-use Rattle.model.specs.Lines.{decimal, line, lineX, linesR, linesD, lineE, batchTextRoom}
-use Rattle.laws.proofs.Tests.{by-test, passed, accepted}
+use Rattle.model.specs.Outcomes.{Handed, hasRooms, handedNumber, runBatchNumber, batchRun, RunBatchOutcome}
+use Rattle.model.specs.Lines.{linesR, linesD, lineE, batchTextRoom}
+use Rattle.laws.proofs.Tests.{by-test, accepted}
 use Rattle.laws.proofs.Lists.{Each, those-length, length-written, take-written}
-use Rattle.laws.proofs.Checks.{ValidScheme, valid-scheme, ValidRoster, valid-roster}
-use Rattle.laws.proofs.Stores.{store-length, room-celled, store-of-words, store-words-length}
+use Rattle.laws.proofs.Checks.{valid-scheme, valid-roster}
+use Rattle.laws.proofs.Stores.{store-of-words, store-words-length}
 use Rattle.laws.proofs.Requests.{numbers-length}
 use Rattle.laws.proofs.Kept.{Good, good, good-batched, whole, roster-length}
 use Rattle.readers.proofs.Exits.{length-entries}

@@ -6,7 +6,7 @@ use mathlib.Core.List.{List, [], _∷_, _++_, map}
 use lib.Dec.{eqb}
 use lib.ListN.{length, getD, take}
 use Rattle.model.specs.Words.{_when_else_, joined, those, numbersFrom}
-use Rattle.model.specs.Rosters.{Person, rosterOf}
+use Rattle.model.specs.Rosters.{Person}
 use Rattle.model.specs.Forms.{cellAt}
 use Rattle.model.specs.Stores.{Design, noDesign, storeOf}
 use Rattle.model.specs.Lines.{decimal, line, linesR, lineP, linesD}

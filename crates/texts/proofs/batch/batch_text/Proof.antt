@@ -6,7 +6,6 @@ use native.Mathlib.Omega.{arith}
 use borrow.Rule.Slice.PartAt.{part-to-end}
 use lib.ListN.{length, take, drop, replicate}
 use lib.Seq.{length-take-le}
-use Rattle.model.specs.Schemes.{Scheme}
 use Rattle.model.specs.Cards.{schemeOf, peopleOf, schemeCardNumber, rosterCardNumber}
 use Rattle.model.specs.Lines.{cardOf, afterCard, batchTextRoom}
 use Rattle.schemes.specs.Loads.{schemeIn}
