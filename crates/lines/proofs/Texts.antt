@@ -1,16 +1,16 @@
 -- A lent text, with one thing after the other put into it: the parts compose.
 -- Assumes nothing.
-use Prim.Native.Nat.{ℕ, suc, _+_, _≤_, _<_}
+use Prim.Native.Nat.{ℕ, _+_, _≤_, _<_}
 use mathlib.Core.List.{List, [], _∷_, _++_, append-nil, append-assoc}
-use mathlib.Core.Path.{_≡_, refl, sym, ap, _∙_}
+use mathlib.Core.Path.{_≡_, sym, ap, _∙_}
 use native.Mathlib.Numerals.{add-one}
 use native.Mathlib.Omega.{arith}
-use lib.ListN.{length, getD, take, drop, set, length-append}
+use lib.ListN.{length, getD, take, set, length-append, length-take}
 use lib.Seq.{length-take-le, take-suc}
 use Rattle.model.specs.Words.{writtenOver}
 use Rattle.laws.proofs.Lists.{length-written, take-written, written-snoc, written-own, written-again}
 use Rattle.lines.specs.declared.Line.{Line}
-use Rattle.lines.specs.Lines.{textOf, Says, Put}
+use Rattle.lines.specs.Lines.{Says, Fits, Put}
 
 length-head : (at : ℕ) (text more : List ℕ) → at ≤ length text → length (take at text ++ more) ≡ at + length more
 length-head at text more h = length-append (take at text) more ∙ ap (λ (n : ℕ). n + length more) (length-take-le at text h)
@@ -46,6 +46,13 @@ module _ {more : List ℕ} {at : ℕ} {text : List ℕ} {end : ℕ} {next : List
   put-over done old e n =
       let t : take at text ≡ done = rw (← n, e) (take-written done old) in
       p .wrote ∙ rw (t, e) (written-again (done ++ more) done old (omega (arith, length-append done more)))
+
+-- a line, of which it is known what it says, may be put where there is room for that
+pub line-room : {l : Line} {says : List ℕ} → Says l says → (at : ℕ) (text : List ℕ) → at + length says ≤ length text
+    → Fits l 0 × (at + l .len ≤ length text)
+line-room {l} s at text h =
+    let short = simp length-take at (ap length (s .says)) in
+    (record { room = omega (arith, short); whole = s .whole }, omega arith)
 
 -- one byte more, put in its place
 pub byte-put : (at i : ℕ) (bytes text next : List ℕ) → i < length bytes → at + i < length text → next ≡ writtenOver (take at text ++ take i bytes) text

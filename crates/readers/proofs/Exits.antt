@@ -21,7 +21,7 @@ use Rattle.cards.proofs.People.{same-number, same-people, roster-held}
 
 -- ---- how many people a card has
 
-length-entries : (fixed n : ℕ) (rest : List ℕ) → length (entries fixed n rest) ≡ n
+pub length-entries : (fixed n : ℕ) (rest : List ℕ) → length (entries fixed n rest) ≡ n
 length-entries fixed zero rest = refl
 length-entries fixed (suc n) rest = ap suc (length-entries fixed n (drop (entrySize fixed rest) rest))
 

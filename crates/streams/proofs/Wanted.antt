@@ -5,7 +5,7 @@ use mathlib.Core.Path.{_≡_, refl, sym, _∙_}
 use mathlib.Core.List.{List}
 use native.Mathlib.Omega.{arith}
 use borrow.Author.Tests.{lt-ltb, le-ltb, le-leb, ne-eqb}
-use lib.ListN.{length, getD, take, drop, drop-of-length-le}
+use lib.ListN.{length, getD, drop-of-length-le}
 use lib.Seq.{take-all}
 use Rattle.model.specs.Cards.{version, schemeOf, schemeCardNumber, rosterCardNumber}
 use Rattle.model.specs.Lines.{cardLength, cardOf, afterCard, cardWanted, batchWanted}

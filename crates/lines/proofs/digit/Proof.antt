@@ -1,6 +1,4 @@
 -- `lines::digit`: one byte more, which is the digit's. Assumes nothing.
-use mathlib.Core.List.{[], _∷_}
-use Rattle.lines.specs.Lines.{Longer}
 use borrow.Author.Needs.{needs}
 use Rattle.lines.proofs.digit.Statement.{statement}
 use Rattle.lines.proofs.digit.Tie as tie

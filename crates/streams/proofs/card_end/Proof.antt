@@ -1,6 +1,6 @@
 -- `streams::card_end` meets its contract: the end of the stream, or the end that the header gives. Assumes nothing.
 use Prim.Native.Nat.{_+_}
-use mathlib.Core.Path.{_≡_, ap}
+use mathlib.Core.Path.{_≡_}
 use native.Mathlib.Omega.{arith}
 use Rattle.model.specs.Lines.{cardLength}
 use Rattle.laws.proofs.Digits.{two-at}

@@ -1,5 +1,4 @@
 -- `streams::card_wanted` meets its contract: one law for each exit. Assumes nothing.
-use mathlib.Core.Path.{sym}
 use native.Mathlib.Omega.{arith}
 use Rattle.laws.proofs.Digits.{two-at}
 use Rattle.streams.proofs.Wanted.{wanted-none-yet, wanted-version, wanted-header, wanted-long, wanted-rest}
