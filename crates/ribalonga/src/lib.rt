@@ -12,11 +12,12 @@ use model::Command;
 use model::MayUse;
 use model::RosterRead;
 use model::SchemeRead;
+use model::Text;
 use model::Verdict;
 use schemes::empty;
 use schemes::is_valid;
 ghost use Rattle.model.specs.Outcomes.{schemeFrom, handedFrom, requestFrom, questionFrom, ReadSchemeOutcome, ReadRosterOutcome, RequestOutcome, RunBatchOutcome, MayUseOutcome, AccessListOutcome, VerdictOfCreateOutcome, VerdictOfDesignOutcome};
-ghost use Rattle.model.specs.Lines.{BatchWantedOutcome, VerdictWantedOutcome};
+ghost use Rattle.model.specs.Lines.{BatchTextOutcome, BatchWantedOutcome, VerdictWantedOutcome};
 ghost use Rattle.ribalonga.specs.Fills.{FillsScheme};
 ghost use mathlib.Core.Path.{_≡_};
 ghost use Rattle.schemes.specs.Loads.{unloaded};
@@ -263,6 +264,14 @@ pub extern "C" fn verdict_of_design(
         budget,
         table,
     )
+}
+
+// The text that the batch program prints for the bytes it has read.
+#[no_mangle]
+pub extern "C" fn batch_text(bytes: &[u8], text: &mut [u8]) -> Text
+    ensures { λ r. ⌜ BatchTextOutcome (now (bytes .entry)) (now (text .entry)) r (now (text .exit)) ⌝ }
+{
+    texts::batch::batch_text(bytes, text)
 }
 
 // How many more bytes the batch program must read.
