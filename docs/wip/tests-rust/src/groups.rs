@@ -1159,14 +1159,16 @@ fn wanted(seen: &mut Seen, rng: &mut Random) -> Tried<()> {
         }
         have = bytes.len().min(have + more);
     }
-    if batch {
+    let same = if batch {
         let text = vec![0; model::BATCH_TEXT_BYTES];
         let whole = trial::batch_text(seen, rng, &bytes, &text)?;
-        expect("a reading program", trial::batch_text(seen, rng, &bytes[..have], &text)? == whole)
+        trial::batch_text(seen, rng, &bytes[..have], &text)? == whole
     } else {
-        // The listing isn't the point here: a scheme without moves lists at once.
-        Ok(())
-    }
+        let (table, text) = (vec![0; 8 * BUDGET], vec![0; model::VERDICT_TEXT_BYTES]);
+        let whole = trial::verdict_text(seen, rng, &bytes, &table, &text)?;
+        trial::verdict_text(seen, rng, &bytes[..have], &table, &text)? == whole
+    };
+    expect("what a reading program prints", same)
 }
 
 // Demand 3: what the verdict says about every history.
@@ -1300,8 +1302,13 @@ fn demand_3(seen: &mut Seen, rng: &mut Random) -> Tried<()> {
         set.store[0] = at as u32 + 1;
         set.store[place] = rng.below(set.kinds) as u32;
         set.store[place + 1..place + 4].copy_from_slice(&packed(&code));
-        let known = model::rights_mask(set.rights.min(6));
-        let share = rng.pick(&[8, 20, 40]);
+        // Few rights on everybody, or one right on many.
+        let mut known = model::rights_mask(set.rights.min(6));
+        let mut share = rng.pick(&[8, 20]);
+        if rng.percent(50) {
+            known = if rng.percent(50) { 1 } else { 1 << rng.below(set.rights) };
+            share = 75;
+        }
         for person in 0..set.people {
             set.store[place + 4 + person] = rng.bits(known, share);
         }

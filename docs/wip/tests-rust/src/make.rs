@@ -325,6 +325,9 @@ pub fn token_scheme(rng: &mut Random) -> MadeScheme {
     const TICKET: u32 = 8;
     const PRIZE: u32 = 16;
     let types = rng.pick(&[1, 1, 1, 2, 2]);
+    // Who has no token may get a thing as well, and the prize is for a token and a
+    // thing: not normal, as who has the token loses it.
+    let loose = rng.percent(30);
     let of_type = |rng: &mut Random| rng.below(types) as u8;
     let first = of_type(rng);
     let z = TOKEN | if rng.percent(70) { TICKET } else { 0 };
@@ -336,7 +339,8 @@ pub fn token_scheme(rng: &mut Random) -> MadeScheme {
     };
     for thing in THINGS {
         let here = if rng.percent(80) { first } else { of_type(rng) };
-        add(INTERNAL, here, here, TOKEN, TOKEN, thing);
+        let asked = if loose { 0 } else { TOKEN };
+        add(INTERNAL, here, here, asked, TOKEN, thing);
         // Things go over, and may stay as well.
         let lost = if rng.percent(70) { thing } else { 0 };
         add(GRANT, here, of_type(rng), thing, lost, thing);
@@ -351,7 +355,8 @@ pub fn token_scheme(rng: &mut Random) -> MadeScheme {
         add(GRANT, first, of_type(rng), asked, TICKET, TOKEN);
     }
     let winner = if rng.percent(80) { first } else { of_type(rng) };
-    add(INTERNAL, winner, winner, THINGS[0] | THINGS[1], 0, PRIZE);
+    let both = if loose { TOKEN | THINGS[0] } else { THINGS[0] | THINGS[1] };
+    add(INTERNAL, winner, winner, both, 0, PRIZE);
     if rng.percent(30) {
         // A loss of something that need not be held.
         let lost = rng.pick(&[TOKEN, THINGS[0], TICKET]);
@@ -382,7 +387,7 @@ pub fn calm_scheme(rng: &mut Random) -> Option<(MadeScheme, usize)> {
 /// The scheme, the create and its count of states.
 fn try_calm_scheme(rng: &mut Random) -> Option<(MadeScheme, usize, usize)> {
     let mut made = if rng.percent(40) { token_scheme(rng) } else { verdict_scheme(rng) };
-    if rng.percent(75) {
+    if rng.percent(65) {
         make_normal(rng, &mut made);
     }
     let creates = made.creates();
