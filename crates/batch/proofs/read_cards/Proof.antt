@@ -1,0 +1,120 @@
+-- `batch::read_cards` meets its contract. The invariant: the bytes read are within the stream's room. Assumes nothing.
+use Prim.Native.Nat.{_+_, _-_, _≤_}
+use mathlib.Core.Path.{_≡_, sym}
+use native.Mathlib.Omega.{arith}
+use lib.ListN.{length, take}
+use lib.Seq.{length-take-le}
+use borrow.Rule.Slice.PartMut.{midOf, mid-len}
+use borrow.Author.Needs.{needs}
+use Rattle.streams.proofs.Fits.{cards-fit}
+use Rattle.batch.proofs.read_cards.Statement.{statement}
+use Rattle.batch.proofs.read_cards.Tie as tie
+use Rattle.batch.proofs.read_cards.Reads as reads
+use Rattle.batch.proofs.read_cards.Lts as lts
+use Rattle.io.proofs.read_full.Reads as read-full-reads
+use Rattle.ribalonga.proofs.batch_wanted.Reads as batch-wanted-reads
+
+abbrev Inv-loop : tie.InvT-loop
+Inv-loop stream₀ n₀ turns₀ stream n turns = (196608 ≡ length stream) × (n ≤ 196608)
+
+abbrev μ-loop : tie.MeasureT-loop
+μ-loop stream₀ n₀ turns₀ stream n turns = turns
+
+-- at every turn: the bytes read are within the stream, and so is what is still wanted behind them
+within : (c : tie.In-loop Inv-loop μ-loop) → c .before .loop .n ≤ length (c .before .loop .stream)
+within c = omega (arith, c .before .loop .inv .0, c .before .loop .inv .1)
+
+fits : (c : tie.Else1 Inv-loop μ-loop) → c .before .before .before .before .loop .n + c .before .batch-wanted .result ≤ 196608
+fits c =
+    let here = c .before .before .before .before .loop in
+    omega (arith, c .before .batch-wanted .ensures .answer-is, cards-fit (take (here .n) (here .stream)), length-take-le (here .n) (here .stream) (within (c .before .before .before)), here .inv .1)
+
+part : (c : tie.Else1 Inv-loop μ-loop)
+    → let here = c .before .before .before .before .loop in
+    length (midOf (here .n) (here .n + c .before .batch-wanted .result - here .n) (here .stream)) ≡ here .n + c .before .batch-wanted .result - here .n
+part c =
+    let here = c .before .before .before .before .loop in
+    mid-len (here .n) (here .n + c .before .batch-wanted .result) (here .stream) (omega (arith, fits c, here .inv .0))
+
+loop-holds : tie.Need-loop-holds Inv-loop μ-loop
+loop-holds c = (c .before .pre, omega arith)
+
+slice-reshare-prefix-batch-wanted : tie.Need-slice-reshare-prefix-batch-wanted Inv-loop μ-loop
+slice-reshare-prefix-batch-wanted c = search needs
+
+slice-aggregate-batch-wanted : tie.Need-slice-aggregate-batch-wanted Inv-loop μ-loop
+slice-aggregate-batch-wanted c = sym (length-take-le _ _ (within (c .before)))
+
+batch-wanted-requires : tie.Need-batch-wanted-requires Inv-loop μ-loop
+batch-wanted-requires c κs = search needs
+
+add-end : tie.Need-add-end Inv-loop μ-loop
+add-end c = omega (arith, fits c)
+
+sub-read-full : tie.Need-sub-read-full Inv-loop μ-loop
+sub-read-full c = search needs
+
+part-read-full-start : tie.Need-part-read-full-start Inv-loop μ-loop
+part-read-full-start c = search needs
+
+part-read-full-end : tie.Need-part-read-full-end Inv-loop μ-loop
+part-read-full-end c = omega (arith, fits c)
+
+read-full-requires : tie.Need-read-full-requires Inv-loop μ-loop
+read-full-requires c κs = search needs
+
+add-n : tie.Need-add-n Inv-loop μ-loop
+add-n c = omega (arith, part (c .before .before .before .before), fits (c .before .before .before .before))
+
+sub-turns : tie.Need-sub-turns Inv-loop μ-loop
+sub-turns c = search needs
+
+loop-less : tie.Need-loop-less Inv-loop μ-loop
+loop-less c = search needs
+
+loop-again : tie.Need-loop-again Inv-loop μ-loop
+loop-again c = search (needs, part (c .before .before .before .before .before), fits (c .before .before .before .before .before))
+
+same-length : tie.Need-same-length Inv-loop μ-loop
+same-length c = search needs
+
+returns : tie.Need-returns Inv-loop μ-loop
+returns c = search needs
+
+same-length-2 : tie.Need-same-length-2 Inv-loop μ-loop
+same-length-2 c = search needs
+
+returns-2 : tie.Need-returns-2 Inv-loop μ-loop
+returns-2 c = search needs
+
+same-length-3 : tie.Need-same-length-3 Inv-loop μ-loop
+same-length-3 c = search needs
+
+returns-3 : tie.Need-returns-3 Inv-loop μ-loop
+returns-3 c = omega (arith, part (c .before .before .before .before .before), fits (c .before .before .before .before .before))
+
+pub read-cards-spec : {M : Type 1} → statement M
+read-cards-spec =
+    tie.close
+    (tie.spec
+    Inv-loop
+    μ-loop
+    loop-holds
+    slice-reshare-prefix-batch-wanted
+    slice-aggregate-batch-wanted
+    batch-wanted-requires
+    add-end
+    sub-read-full
+    part-read-full-start
+    part-read-full-end
+    read-full-requires
+    add-n
+    sub-turns
+    loop-less
+    loop-again
+    same-length
+    returns
+    same-length-2
+    returns-2
+    same-length-3
+    returns-3)
