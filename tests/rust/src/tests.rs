@@ -858,6 +858,19 @@ fn a_program_reads_no_byte_after_the_last_card() {
     assert_eq!(model::verdict_wanted(&[1, 1, 0]), 256);
 }
 
+#[test]
+fn a_program_reads_no_byte_after_a_refused_card() {
+    assert_eq!(model::verdict_wanted(&[2]), 0);
+    assert_eq!(model::verdict_wanted(&[1, 255, 254]), 0);
+    assert_eq!(model::verdict_wanted(&[1, 255, 253]), 65_533);
+    let none = mill::card(&mill::scheme_body(0, 1, 1, &[]));
+    assert_eq!(model::batch_wanted(&none), 0);
+    let mut bytes = mill::scheme_card(&mill::scheme(&mill::A));
+    assert_eq!(model::batch_wanted(&bytes), 3);
+    bytes.extend(mill::card(&mill::roster_body(&[])));
+    assert_eq!(model::batch_wanted(&bytes), 0);
+}
+
 // The tools of the differential tests.
 
 #[test]

@@ -102,31 +102,40 @@ pub fn verdict_text(bytes: &[u8], table: &[u32], text: &[u8]) -> (Text, Vec<u32>
     (answer, after, written)
 }
 
-/// The bytes still to be read, as far as the headers at hand tell: up to the end
-/// of the header, then up to the end of the card, and 0 when all cards are whole.
-///
-/// An open reading: none of the documents says more than the name. Cards are only
-/// measured here, not checked.
-fn wanted(mut bytes: &[u8], cards: usize) -> usize {
-    for _ in 0..cards {
-        if bytes.len() < 3 {
-            return 3 - bytes.len();
-        }
-        let said = 3 + bytes[1] as usize * 256 + bytes[2] as usize;
-        if bytes.len() < said {
-            return said - bytes.len();
-        }
-        bytes = &bytes[said..];
+/// The bytes that the first card of a stream still lacks: up to the end of its
+/// header, then up to its own end. None once it is whole, and none once its version
+/// or its length refuses it, whatever follows.
+fn lacking(bytes: &[u8]) -> usize {
+    match bytes {
+        [version, ..] if *version != 1 => 0,
+        [_, high, low, ..] => match 3 + *high as usize * 256 + *low as usize {
+            said if said > 65_536 => 0,
+            said => said.saturating_sub(bytes.len()),
+        },
+        _ => 3 - bytes.len(),
     }
-    0
 }
 
-/// Scheme, roster and batch.
+/// Scheme, roster and batch, each only once the one before it is whole and accepted.
 pub fn batch_wanted(bytes: &[u8]) -> usize {
-    wanted(bytes, 3)
+    let further = || -> Checked<usize> {
+        if lacking(bytes) > 0 {
+            return Ok(lacking(bytes));
+        }
+        let (card, rest) = next_card(bytes);
+        let written = cards::scheme(card)?;
+        check_scheme(&written.scheme())?;
+        if lacking(rest) > 0 {
+            return Ok(lacking(rest));
+        }
+        let (card, rest) = next_card(rest);
+        lent::check_roster(&written.scheme(), &cards::roster(card)?)?;
+        Ok(lacking(rest))
+    };
+    further().unwrap_or(0)
 }
 
 /// The scheme.
 pub fn verdict_wanted(bytes: &[u8]) -> usize {
-    wanted(bytes, 1)
+    lacking(bytes)
 }

@@ -775,25 +775,45 @@ pub fn verdict_text(bytes: &[u8], table: &mut [u32], text: &mut [u8]) -> Text {
     Text { number: 0, bytes: lines.at }
 }
 
-fn wanted(bytes: &[u8], cards: usize) -> usize {
-    let mut rest = bytes;
-    for _ in 0..cards {
-        if rest.len() < 3 {
-            return 3 - rest.len();
-        }
-        let said = 3 + u16::from_be_bytes([rest[1], rest[2]]) as usize;
-        if said > rest.len() {
-            return said - rest.len();
-        }
-        rest = &rest[said..];
+fn lacking(bytes: &[u8]) -> usize {
+    if !bytes.is_empty() && bytes[0] != 1 {
+        return 0;
     }
-    0
+    if bytes.len() < 3 {
+        return 3 - bytes.len();
+    }
+    let said = 3 + u16::from_be_bytes([bytes[1], bytes[2]]) as usize;
+    if said > 65_536 {
+        return 0;
+    }
+    said.saturating_sub(bytes.len())
 }
 
 pub fn batch_wanted(bytes: &[u8]) -> usize {
-    wanted(bytes, 3)
+    let mut lack = lacking(bytes);
+    if lack != 0 {
+        return lack;
+    }
+    let mut records = [Command::default(); 64];
+    let (card, rest) = next_card(bytes);
+    let scheme = read_scheme(card, &mut records);
+    if scheme.number != 0 {
+        return 0;
+    }
+    lack = lacking(rest);
+    if lack != 0 {
+        return lack;
+    }
+    let commands = &records[..scheme.commands];
+    let mut roster = [0u32; 128];
+    let (card, rest) = next_card(rest);
+    let (types, kinds, rights) = (scheme.types, scheme.kinds, scheme.rights);
+    if read_roster(commands, types, kinds, rights, card, &mut roster).number != 0 {
+        return 0;
+    }
+    lacking(rest)
 }
 
 pub fn verdict_wanted(bytes: &[u8]) -> usize {
-    wanted(bytes, 1)
+    lacking(bytes)
 }
