@@ -1,13 +1,13 @@
 -- The scheme of a card, loaded command by command: the scheme with its first commands, and one more.
 -- Assumes nothing.
 use Prim.Native.Nat.{ℕ, _+_, _*_, _≤_}
-use mathlib.Core.Path.{_≡_, refl, ap, ap₂, _∙_}
+use mathlib.Core.Path.{_≡_, refl, sym, ap, ap₂, _∙_}
 use mathlib.Core.Bool.{Bool, true, false, not}
 use mathlib.Core.List.{List, [], _∷_, _++_, map, map-append}
 use native.Mathlib.Nat.{mul-comm}
 use native.Mathlib.Numerals.{add-one}
-use lib.ListN.{length, getD, take, drop, length-map}
-use lib.Seq.{drop-drop}
+use lib.ListN.{length, getD, take, drop, set, length-map}
+use lib.Seq.{drop-drop, set-out}
 use Rattle.model.specs.declared.Command.{Command}
 use Rattle.model.specs.Words.{_when_else_, groups}
 use Rattle.model.specs.Schemes.{Scheme, schemeIsValid, schemeNumber}
@@ -64,6 +64,21 @@ module _ (bytes : List ℕ) where
       ap (λ (cs : List Command). loadedFrom (record { types = getD bytes 0 0; kinds = getD bytes 1 0; rights = getD bytes 2 0; commands = cs }))
       (one-more-command i)
       ∙ loaded-pushed (schemeTo bytes i) (commandOf (take 16 (drop (4 + 16 * i) bytes)))
+
+  -- one command more, written in its place, or only counted where there is none
+  module _ (l : Loaded) (i : ℕ) (e : l ≡ loadedFrom (schemeTo bytes i)) (c : Command) (ec : c ≡ commandOf (take 16 (drop (4 + 16 * i) bytes))) where
+    abbrev with-commands : List Command → Loaded
+    with-commands cs = record { types = l .types; kinds = l .kinds; rights = l .rights; count = i + 1; commands = cs }
+
+    pub next-kept : with-commands (set (l .commands) i c) ≡ loadedFrom (schemeTo bytes (i + 1))
+    unfolding pushed
+    next-kept =
+        let count : l .count ≡ i = ap (λ (m : Loaded). m .count) e ∙ loaded-count i in
+        let one : with-commands (set (l .commands) i c) ≡ pushed l c = rw count refl in
+        one ∙ ap₂ pushed e ec ∙ sym (loaded-next i)
+
+    pub next-counted : length (l .commands) ≤ i → with-commands (l .commands) ≡ loadedFrom (schemeTo bytes (i + 1))
+    next-counted h = ap with-commands (sym (set-out (l .commands) i c h)) ∙ next-kept
 
 -- ---- the card's number, once it is read
 

@@ -4,9 +4,9 @@ use crate::is_card;
 use codes::word;
 use model::Command;
 use schemes::Loaded;
+use schemes::MOST_COMMANDS;
 use schemes::empty;
 use schemes::is_valid;
-use schemes::push;
 ghost use mathlib.Core.Path.{_≡_};
 ghost use mathlib.Core.Bool.{true};
 ghost use Prim.Native.Nat.{_+_, _≤_};
@@ -60,7 +60,8 @@ pub fn command_on(bytes: &[u8], at: usize) -> Command
     }
 }
 
-// The scheme that the card holds, whatever its counts are. Commands past the 64th are counted and not kept.
+// The scheme that the card holds, whatever its counts are. Commands past the 64th are counted and not kept. Each is written in its place, so that no
+// scheme is copied for it.
 pub fn scheme_on(card: &[u8]) -> Loaded
     requires { ⌜ isSchemeCard (now card) ≡ true ⌝ }
     ensures { λ r. ⌜ r ≡ loadedFrom (schemeOf (now (card .entry))) ⌝ }
@@ -70,8 +71,12 @@ pub fn scheme_on(card: &[u8]) -> Loaded
     let mut l = empty(body[0] as usize, body[1] as usize, body[2] as usize);
     let mut i = 0;
     while i < n {
-        l = push(l, command_on(body, COUNTS + COMMAND_BYTES * i));
+        let c = command_on(body, COUNTS + COMMAND_BYTES * i);
+        if i < MOST_COMMANDS {
+            l.commands[i] = c;
+        }
         i += 1;
+        l.count = i;
     }
     l
 }

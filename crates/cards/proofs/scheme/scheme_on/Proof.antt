@@ -1,15 +1,17 @@
 -- `cards::scheme::scheme_on` meets its contract. The invariant: what is loaded is the card's scheme with its first commands.
 -- Assumes nothing.
 use Prim.Native.Nat.{ℕ, _+_, _-_, _*_, _≤_, _<_}
-use mathlib.Core.Path.{_≡_, sym, ap, ap₂, _∙_}
+use mathlib.Core.Path.{_≡_, sym, ap, _∙_}
+use mathlib.Core.Logic.{⊎-elim}
 use mathlib.Core.List.{List}
 use native.Mathlib.Omega.{arith}
 use borrow.Author.Needs.{needs}
 use borrow.Rule.Slice.PartAt.{part-to-end}
 use lib.ListN.{length, getD, take, drop}
 use Rattle.schemes.specs.declared.Loaded.{Loaded}
-use Rattle.schemes.specs.Loads.{pushed, loadedFrom}
-use Rattle.cards.proofs.Commands.{scheme-size, schemeTo, scheme-whole, loaded-first, loaded-count, loaded-next}
+use Rattle.schemes.specs.Loads.{loadedFrom}
+use Rattle.schemes.proofs.Loads.{loaded-whole}
+use Rattle.cards.proofs.Commands.{scheme-size, schemeTo, scheme-whole, loaded-first, next-kept, next-counted}
 use Rattle.cards.proofs.scheme.scheme_on.Statement.{statement}
 use Rattle.cards.proofs.scheme.scheme_on.Tie as tie
 
@@ -81,11 +83,15 @@ add-command-on c = omega (arith, few c)
 command-on-requires : tie.Need-command-on-requires Inv-loop μ-loop
 command-on-requires c κs = omega (arith, room (c .before .before .before .before .before .before .before .before .before))
 
-push-requires : tie.Need-push-requires Inv-loop μ-loop
-push-requires c κs =
-    let here = c .before .before .loop in
-    let start = c .before .before .before .before .before .before .before .before .before .before in
-    omega (arith, few (c .before), ap (λ (l : Loaded). l .count) (here .inv .1), loaded-count (bodyOf start) (here .i))
+mul-c : tie.Need-mul-c Inv-loop μ-loop
+mul-c c = search needs
+
+element-set-from-c : tie.Need-element-set-from-c Inv-loop μ-loop
+element-set-from-c c = search needs
+
+-- the scheme at hand, with the count that a turn leaves
+abbrev counted : ℕ → Loaded → Loaded
+counted i l = record { types = l .types; kinds = l .kinds; rights = l .rights; count = i + 1; commands = l .commands }
 
 add-i : tie.Need-add-i Inv-loop μ-loop
 add-i c = omega (arith, few (c .before .before))
@@ -97,8 +103,13 @@ loop-again : tie.Need-loop-again Inv-loop μ-loop
 loop-again c = (
   omega arith,
   let here = c .before .before .before .loop in
-      let start = c .before .before .before .before .before .before .before .before .before .before .before in
-      c .push .ensures ∙ ap₂ pushed (here .inv .1) (c .before .command-on .ensures) ∙ sym (loaded-next (bodyOf start) (here .i)),
+      let bytes = bodyOf (c .before .before .before .before .before .before .before .before .before .before .before) in
+      let said = c .before .command-on .ensures in
+      ⊎-elim
+      (λ kept. ap (counted (here .i)) (kept .1) ∙ next-kept bytes (here .l) (here .i) (here .inv .1) (c .before .command-on .result) said)
+      (λ past. ap (counted (here .i)) (past .1) ∙ next-counted bytes (here .l) (here .i) (here .inv .1) (c .before .command-on .result) said
+      (omega (arith, ap (λ (l : Loaded). length (l .commands)) (here .inv .1), loaded-whole (schemeTo bytes (here .i)), past .0 .left)))
+      (c .if1 .came),
 )
 
 returns : tie.Need-returns Inv-loop μ-loop
@@ -129,7 +140,8 @@ scheme-on-spec =
     mul-command-on
     add-command-on
     command-on-requires
-    push-requires
+    mul-c
+    element-set-from-c
     add-i
     loop-less
     loop-again
