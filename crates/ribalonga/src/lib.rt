@@ -12,14 +12,12 @@ use model::RosterRead;
 use model::SchemeRead;
 use model::Text;
 use model::Verdict;
+use schemes::MOST_COMMANDS;
 use schemes::empty;
 ghost use Rattle.model.specs.Outcomes.{schemeFrom, handedFrom, requestFrom, questionFrom, ReadSchemeOutcome, ReadRosterOutcome, RequestOutcome, RunBatchOutcome, MayUseOutcome, AccessListOutcome, VerdictOfCreateOutcome, VerdictOfDesignOutcome};
 ghost use Rattle.model.specs.Lines.{BatchTextOutcome, BatchWantedOutcome, VerdictWantedOutcome};
 ghost use Rattle.ribalonga.specs.Fills.{unfilled, FillsScheme};
 ghost use mathlib.Core.Path.{_≡_};
-
-// The records that a scheme's list has room for.
-const MOST_COMMANDS: usize = 64;
 
 // A refused card: its number alone, and no command.
 fn unfilled(number: u8) -> Filled
