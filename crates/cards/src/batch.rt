@@ -12,6 +12,9 @@ ghost use Rattle.cards.specs.Entries.{nextOf};
 // The most requests of a batch.
 pub const MOST_REQUESTS: usize = 256;
 
+// The bytes of their count.
+pub const COUNT_BYTES: usize = 2;
+
 // The bytes of a request before its code.
 pub const REQUEST_FIXED: usize = 4;
 
@@ -23,14 +26,14 @@ pub fn is_batch_card(card: &[u8]) -> bool
         return false;
     }
     let body = &card[HEADER..];
-    if body.len() < 2 {
+    if body.len() < COUNT_BYTES {
         return false;
     }
     let n = number_at(body, 0);
     if MOST_REQUESTS < n {
         return false;
     }
-    entries_fill(&body[2..], REQUEST_FIXED, n)
+    entries_fill(&body[COUNT_BYTES..], REQUEST_FIXED, n)
 }
 
 // What stands at the beginning of the rest: a request, whose code ends with its last byte, or one that runs past the end.

@@ -5,6 +5,7 @@ use crate::is_card;
 use codes::pack;
 use codes::spelled;
 use model::Code;
+use rosters::PERSON_WORDS;
 ghost use mathlib.Core.Path.{_≡_};
 ghost use mathlib.Core.Bool.{true};
 ghost use mathlib.Core.List.{map};
@@ -19,9 +20,6 @@ ghost use Rattle.cards.specs.People.{personIn, spelledOnly, readable};
 
 // The bytes of a person before the code.
 pub const PERSON_FIXED: usize = 2;
-
-// The words of a person in lent memory.
-const PERSON_WORDS: usize = 4;
 
 // The card is a roster's: its people fill it.
 pub fn is_roster_card(card: &[u8]) -> bool

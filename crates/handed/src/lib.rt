@@ -22,7 +22,7 @@ ghost use Rattle.schemes.specs.declared.Loaded.{Loaded};
 ghost use Rattle.handed.specs.Handing.{countedBy, handedBy};
 
 // The words that a roster of 32 people and a store of 64 designs take.
-const ROSTER_ROOM: usize = 128;
+pub const ROSTER_ROOM: usize = 128;
 
 const STORE_ROOM: usize = 2305;
 

@@ -1,9 +1,12 @@
 // A roster card, read with its scheme into lent words. Meets the outcome of `read_roster` in `model`'s Outcomes. Inner functions: the public call and
 // the batch program go through them, and none is offered outside.
+use cards::HEADER;
 use cards::roster::is_roster_card;
 use cards::roster::read_people;
+use handed::ROSTER_ROOM;
 use handed::counted;
 use model::RosterRead;
+use rosters::MOST_PEOPLE;
 use rosters::roster_number;
 use schemes::Loaded;
 use schemes::is_valid;
@@ -17,15 +20,6 @@ ghost use Rattle.model.specs.Outcomes.{ReadRosterOutcome};
 ghost use Rattle.schemes.specs.Loads.{schemeIn};
 ghost use Rattle.handed.specs.Handing.{countedBy};
 
-// The words that a roster of 32 people takes.
-const ROSTER_ROOM: usize = 128;
-
-// The most people in a roster.
-const MOST_PEOPLE: usize = 32;
-
-// Where on the card the count of people stands, past the header.
-const COUNT: usize = 3;
-
 // Nothing was written, and why.
 fn refused(number: u8) -> RosterRead
     ensures { λ r. ⌜ r ≡ record { number = number; people = 0 } ⌝ }
@@ -38,7 +32,7 @@ fn people_number(types: usize, people: usize, card: &[u8]) -> u8
     requires { ⌜ (isRosterCard (now card) ≡ true) × (people ≡ length (peopleOf (now card))) × (1 ≤ people) × (people ≤ 32) ⌝ }
     ensures { λ r. ⌜ r ≡ rosterNumber types (peopleOf (now (card .entry))) ⌝ }
 {
-    let mut words = [0u32; 128];
+    let mut words = [0u32; ROSTER_ROOM];
     read_people(card, &mut words);
     roster_number(types, people, &words)
 }
@@ -56,7 +50,7 @@ pub fn roster_on(l: Loaded, card: &[u8], roster: &mut [u32]) -> RosterRead
     if !is_valid(l) {
         return refused(2);
     }
-    let people = card[COUNT] as usize;
+    let people = card[HEADER] as usize;
     if people < 1 {
         return refused(3);
     }

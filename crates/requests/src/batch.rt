@@ -1,6 +1,8 @@
 // A batch: each request is read from the rest of the body that begins at it, and is answered on what those before it left.
 use crate::answered;
 use cards::HEADER;
+use cards::batch::COUNT_BYTES;
+use cards::batch::MOST_REQUESTS;
 use cards::batch::Next;
 use cards::batch::REQUEST_FIXED;
 use cards::batch::is_batch_card;
@@ -23,11 +25,6 @@ ghost use Rattle.model.specs.Outcomes.{RunBatchOutcome};
 ghost use Rattle.cards.specs.Entries.{isWhole};
 ghost use Rattle.handed.specs.Handing.{countedBy, handedBy, Accepted};
 ghost use Rattle.requests.specs.Running.{Stepped, AllAnswered, CardAnswered};
-
-// The most requests in a batch, and the bytes of their count.
-const MOST_REQUESTS: usize = 256;
-
-const COUNT_BYTES: usize = 2;
 
 // The answer to one request of a batch, and the size of its entry.
 pub struct Step {

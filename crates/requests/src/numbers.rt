@@ -8,6 +8,7 @@ use schemes::CREATE;
 use schemes::GRANT;
 use schemes::Loaded;
 use schemes::command_of;
+use stores::MOST_DESIGNS;
 use stores::cell_at;
 use stores::design_count;
 use stores::kind_at;
@@ -23,9 +24,6 @@ ghost use Rattle.model.specs.Requests.{twoPeople, createNumber, otherNumber, re
 ghost use Rattle.schemes.specs.Loads.{schemeIn};
 ghost use Rattle.handed.specs.Handing.{handedBy, Accepted};
 ghost use Rattle.requests.specs.Asking.{asked, whoNumber};
-
-// The most designs in a store.
-const MOST_DESIGNS: usize = 64;
 
 // Only a grant takes two people.
 fn two_people(c: Command, source: usize, destination: usize) -> bool

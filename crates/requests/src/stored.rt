@@ -9,6 +9,8 @@ use rights::after_loss;
 use schemes::CREATE;
 use schemes::Loaded;
 use schemes::command_of;
+use stores::DESIGN_WORDS;
+use stores::FIRST_CELL;
 ghost use mathlib.Core.Path.{_≡_};
 ghost use mathlib.Core.List.{[], _∷_, _++_};
 ghost use Prim.Native.Nat.{_+_, _*_, _≤_, _<_};
@@ -19,11 +21,6 @@ ghost use Rattle.model.specs.Stores.{storeOf, storeWords};
 ghost use Rattle.model.specs.Requests.{newDesign, carriedOut};
 ghost use Rattle.schemes.specs.Loads.{schemeIn};
 ghost use Rattle.requests.specs.Asking.{asked, Allowed};
-
-// The words of a design, and which of them is the first cell.
-const DESIGN_WORDS: usize = 36;
-
-const FIRST_CELL: usize = 4;
 
 // Every word becomes 0.
 fn clear(words: &mut [u32])

@@ -8,7 +8,12 @@ use Rattle.model.specs.declared.Command.{Command}
 use Rattle.model.specs.Words.{writtenOver}
 use Rattle.model.specs.Cards.{schemeOf}
 use Rattle.model.specs.Outcomes.{onDone, readSchemeNumber, schemeRead}
+use Rattle.schemes.specs.Loads.{unloaded}
 use Rattle.lent.specs.declared.Filled.{Filled}
+
+-- a refused card: its number alone, and no command
+abbrev pub unfilled : ℕ → Filled
+unfilled number = record { answer = record { number = number; types = 0; kinds = 0; rights = 0; commands = 0 }; scheme = unloaded 0 0 0 }
 
 -- the answer, and commands that are none where the card is refused
 pub record FillsScheme (card : List ℕ) (room : ℕ) (r : Filled) : Type 0 where

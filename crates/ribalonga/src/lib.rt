@@ -1,8 +1,6 @@
 // The public calls, and nothing else is public. Each takes every input, ends, and refuses bad input by its number; none has a
 // `requires`. Its contract is its named outcome in `model/specs/Outcomes`, an equation for the answer and for every lent word.
 // Each loads the lent list of commands and goes on by value.
-use cards::scheme::is_scheme_card;
-use cards::scheme::scheme_on;
 use lent::Filled;
 use lent::load;
 use lent::store_all;
@@ -14,20 +12,16 @@ use model::RosterRead;
 use model::SchemeRead;
 use model::Text;
 use model::Verdict;
+use schemes::MOST_COMMANDS;
 use schemes::empty;
-use schemes::is_valid;
 ghost use Rattle.model.specs.Outcomes.{schemeFrom, handedFrom, requestFrom, questionFrom, ReadSchemeOutcome, ReadRosterOutcome, RequestOutcome, RunBatchOutcome, MayUseOutcome, AccessListOutcome, VerdictOfCreateOutcome, VerdictOfDesignOutcome};
 ghost use Rattle.model.specs.Lines.{BatchTextOutcome, BatchWantedOutcome, VerdictWantedOutcome};
-ghost use Rattle.ribalonga.specs.Fills.{FillsScheme};
+ghost use Rattle.ribalonga.specs.Fills.{unfilled, FillsScheme};
 ghost use mathlib.Core.Path.{_≡_};
-ghost use Rattle.schemes.specs.Loads.{unloaded};
-
-// The records that a scheme's list has room for.
-const MOST_COMMANDS: usize = 64;
 
 // A refused card: its number alone, and no command.
 fn unfilled(number: u8) -> Filled
-    ensures { λ r. ⌜ r ≡ record { answer = record { number = number; types = 0; kinds = 0; rights = 0; commands = 0 }; scheme = unloaded 0 0 0 } ⌝ }
+    ensures { λ r. ⌜ r ≡ unfilled number ⌝ }
 {
     let scheme = empty(0, 0, 0);
     let answer = SchemeRead {
@@ -47,13 +41,11 @@ fn scheme_filled(card: &[u8], room: usize) -> Filled
     if room < MOST_COMMANDS {
         return unfilled(20);
     }
-    if !is_scheme_card(card) {
-        return unfilled(1);
+    let read = cards::scheme::read_scheme(card);
+    if read.number != 0 {
+        return unfilled(read.number);
     }
-    let scheme = scheme_on(card);
-    if !is_valid(scheme) {
-        return unfilled(2);
-    }
+    let scheme = read.scheme;
     let answer = SchemeRead {
         number: 0,
         types: scheme.types,

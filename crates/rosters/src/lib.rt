@@ -14,10 +14,10 @@ ghost use Rattle.model.specs.Codes.{unpacked};
 ghost use Rattle.model.specs.Rosters.{nobody, typeAt, outOfRange, rosterNumber, rosterOf};
 
 // The most people in a roster.
-const MOST_PEOPLE: usize = 32;
+pub const MOST_PEOPLE: usize = 32;
 
 // The words of a person.
-const PERSON_WORDS: usize = 4;
+pub const PERSON_WORDS: usize = 4;
 
 // The type of a person, which can be any number until the roster is checked.
 pub fn type_at(roster: &[u32], p: usize) -> usize

@@ -17,13 +17,13 @@ ghost use Rattle.model.specs.Forms.{cellAt};
 ghost use Rattle.model.specs.Stores.{noDesign, placeOf, fitsDesign, storeNumber, designOf, storeOf};
 
 // The most designs in a store.
-const MOST_DESIGNS: usize = 64;
+pub const MOST_DESIGNS: usize = 64;
 
 // The words of a design.
-const DESIGN_WORDS: usize = 36;
+pub const DESIGN_WORDS: usize = 36;
 
 // Which of them is the first cell.
-const FIRST_CELL: usize = 4;
+pub const FIRST_CELL: usize = 4;
 
 // How many designs the store counts, which can be any number until the store is checked.
 pub fn design_count(store: &[u32]) -> usize

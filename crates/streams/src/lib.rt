@@ -5,6 +5,7 @@ use cards::MOST_CARD;
 use cards::VERSION;
 use cards::number_at;
 use cards::scheme::read_scheme;
+use handed::ROSTER_ROOM;
 use readers::roster_on;
 ghost use mathlib.Core.Path.{_≡_};
 ghost use Rattle.model.specs.Lines.{cardWanted, BatchWantedOutcome, VerdictWantedOutcome};
@@ -75,7 +76,7 @@ pub fn batch_wanted(stream: &[u8]) -> usize
         return more;
     }
     let rest_end = card_end(rest);
-    let mut roster = [0u32; 128];
+    let mut roster = [0u32; ROSTER_ROOM];
     let people = roster_on(read.scheme, &rest[..rest_end], &mut roster);
     if people.number != 0 {
         return 0;

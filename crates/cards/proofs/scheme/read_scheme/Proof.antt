@@ -21,6 +21,7 @@ returns c =
     let refused = c .before in
     record {
       number = sym (no-scheme _ (sym (refused .before .is-scheme-card .ensures) ∙ not-true _ (refused .if1 .taken)));
+      loaded = λ e. absurd (omega arith);
       scheme = λ e. absurd (omega arith);
     }
 
@@ -37,13 +38,17 @@ returns-2 : tie.Need-returns-2
 returns-2 c =
     let read = c .before .before in
     let bad = sym (loaded-judged _ _ (read .scheme-on .ensures)) ∙ sym (c .before .is-valid .ensures) ∙ not-true _ (c .if2 .taken) in
-    record { number = sym (scheme-number _ (a-scheme (read .before)) false bad); scheme = λ e. absurd (omega arith) }
+    record { number = sym (scheme-number _ (a-scheme (read .before)) false bad); loaded = λ e. absurd (omega arith); scheme = λ e. absurd (omega arith) }
 
 returns-3 : tie.Need-returns-3
 returns-3 c =
     let read = c .before .before in
     let good = sym (loaded-judged _ _ (read .scheme-on .ensures)) ∙ sym (c .before .is-valid .ensures) ∙ not-false _ (c .if2 .left) in
-    record { number = sym (scheme-number _ (a-scheme (read .before)) true good); scheme = λ e. valid-stands _ _ (read .scheme-on .ensures) good }
+    record {
+      number = sym (scheme-number _ (a-scheme (read .before)) true good);
+      loaded = λ e. read .scheme-on .ensures;
+      scheme = λ e. valid-stands _ _ (read .scheme-on .ensures) good;
+    }
 
 pub read-scheme-spec : {M : Type 1} → statement M
 read-scheme-spec =
