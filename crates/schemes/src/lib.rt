@@ -133,7 +133,7 @@ fn all_valid(l: Loaded) -> bool
 {
     let mut i = 0;
     while i < l.count {
-        if !command_is_valid(l.types, l.kinds, l.rights, command_of(l, i)) {
+        if !command_is_valid(l.types, l.kinds, l.rights, l.commands[i]) {
             return false;
         }
         i += 1;
