@@ -1,18 +1,18 @@
--- What a loaded list of commands is, field by field, what it stands for, and that one command more is pushed; and one command more that is written out.
+-- What a loaded list of commands is, field by field, and what it stands for; and one command more that is written from a list's beginning.
 -- Assumes nothing.
-use Prim.Native.Nat.{ℕ, _+_, _≤_, _<_}
-use mathlib.Core.List.{List, []}
-use mathlib.Core.Path.{_≡_, refl, ap, _∙_}
+use Prim.Native.Nat.{ℕ, _+_, _≤_, _<_, min}
+use mathlib.Core.List.{List}
+use mathlib.Core.Path.{_≡_, refl, sym, ap, _∙_}
 use native.Mathlib.Numerals.{add-one}
 use native.Mathlib.Omega.{arith}
 use lib.ListN.{length, take, set, replicate, length-take}
-use lib.Seq.{take-suc, length-take-le, getD-take}
+use lib.Seq.{take-suc, length-take-le, getD-take, take-take, take-all}
 use Rattle.model.specs.declared.Command.{Command}
 use Rattle.model.specs.Words.{writtenOver}
 use Rattle.model.specs.Schemes.{Scheme, noCommand, commandIn}
 use Rattle.laws.proofs.Lists.{length-written, written-inside, written-snoc}
-use Rattle.schemes.specs.Loads.{listed, unloaded, pushed, loadedFrom}
-use Rattle.schemes.proofs.Loads.{loaded-none, loaded-stands, loaded-pushed}
+use Rattle.schemes.specs.Loads.{listed, loadedFrom}
+use Rattle.schemes.proofs.Loads.{loaded-stands}
 use Rattle.lent.specs.Loads.{loadedOf}
 
 module _ (cs : List Command) where
@@ -51,13 +51,12 @@ module _ (cs : List Command) where
   unfolding loadedOf loadedFrom
   loaded-scheme types kinds rights = refl
 
-  pub loaded-more : (i : ℕ) → i < length cs → loadedOf (take (i + 1) cs) ≡ pushed (loadedOf (take i cs)) (commandIn cs i)
-  unfolding loadedOf
-  loaded-more i l = rw (add-one i, take-suc cs i noCommand l) (loaded-pushed (record { types = 0; kinds = 0; rights = 0; commands = take i cs }) (commandIn cs i))
-
-pub loaded-nil : loadedOf [] ≡ unloaded 0 0 0
-unfolding loadedOf
-loaded-nil = loaded-none 0 0 0
+-- with its first commands written over it, it is the whole list, loaded
+pub loaded-whole : (cs : List Command) (i : ℕ) → i ≡ min (length cs) 64
+    → record { types = 0; kinds = 0; rights = 0; count = length cs; commands = writtenOver (take i cs) (replicate 64 noCommand) } ≡ loadedOf cs
+unfolding loadedOf loadedFrom
+loaded-whole cs i e = ap (λ (zs : List Command). record { types = 0; kinds = 0; rights = 0; count = length cs; commands = writtenOver zs (replicate 64 noCommand) })
+    (sym (take-take i 64 cs (omega (arith, e))) ∙ take-all i (take 64 cs) (omega (arith, e, length-take 64 cs)))
 
 -- ---- commands that are written from a list's beginning
 

@@ -7,7 +7,7 @@ use model::SchemeRead;
 use schemes::Loaded;
 use schemes::command_of;
 use schemes::empty;
-use schemes::push;
+use schemes::kept;
 ghost use mathlib.Core.Path.{_≡_};
 ghost use Prim.Native.Nat.{_<_, _≤_};
 ghost use lib.ListN.{length, take, set};
@@ -44,10 +44,12 @@ pub fn load(commands: &[Command]) -> Loaded
     ensures { λ r. ⌜ r ≡ loadedOf (now (commands .entry)) ⌝ }
 {
     let mut l = empty(0, 0, 0);
+    let count = commands.len();
+    l.count = count;
+    let most = kept(count);
     let mut i: usize = 0;
-    while i < commands.len() {
-        let c = commands[i];
-        l = push(l, c);
+    while i < most {
+        l.commands[i] = commands[i];
         i += 1;
     }
     l

@@ -4,9 +4,10 @@ use model::Command;
 use rights::fits_rights;
 ghost use mathlib.Core.Path.{_≡_};
 ghost use mathlib.Core.Bool.{not, _&&_, _||_};
-ghost use Prim.Native.Nat.{_≤_, _<_};
+ghost use Prim.Native.Nat.{_≤_, _<_, min};
 ghost use lib.Dec.{ltb, eqb};
 ghost use Rattle.model.specs.Words.{between, all};
+ghost use Rattle.model.specs.Sizes.{mostCommands};
 ghost use Rattle.model.specs.Rights.{fitsRights};
 ghost use Rattle.model.specs.Schemes.{isCreate, isGrant, commandAt, commandIsValid, schemeIsValid};
 ghost use Rattle.schemes.specs.Loads.{listed, schemeIn, unloaded, pushed};
@@ -132,7 +133,7 @@ fn all_valid(l: Loaded) -> bool
 {
     let mut i = 0;
     while i < l.count {
-        if !command_is_valid(l.types, l.kinds, l.rights, command_of(l, i)) {
+        if !command_is_valid(l.types, l.kinds, l.rights, l.commands[i]) {
             return false;
         }
         i += 1;
@@ -180,6 +181,16 @@ pub fn empty(types: usize, kinds: usize, rights: usize) -> Loaded
         count: 0,
         commands,
     }
+}
+
+// How many of so many commands are kept.
+pub fn kept(count: usize) -> usize
+    ensures { λ r. ⌜ r ≡ min count mostCommands ⌝ }
+{
+    if count < MOST_COMMANDS {
+        return count;
+    }
+    MOST_COMMANDS
 }
 
 // The scheme with one command more.

@@ -9,7 +9,7 @@ use lib.ListN.{length, drop, length-map}
 use Rattle.model.specs.Words.{all}
 use Rattle.model.specs.Schemes.{noCommand, commandIsValid}
 use Rattle.schemes.specs.Loads.{listed}
-use Rattle.schemes.proofs.Loads.{listed-length}
+use Rattle.schemes.proofs.Loads.{listed-length, listed-at}
 use Rattle.schemes.proofs.Rules.{all-passed, all-failed, all-ended}
 use Rattle.schemes.proofs.all_valid.Statement.{statement}
 use Rattle.schemes.proofs.all_valid.Tie as tie
@@ -22,27 +22,33 @@ Inv-loop l i₀ i =
 abbrev μ-loop : tie.MeasureT-loop
 μ-loop l i₀ i = l .count - i
 
--- as many commands are listed as were counted
-counted : (c : tie.Start Inv-loop μ-loop) → length (listed (c .args .l)) ≡ c .args .l .count
-counted c = listed-length (c .args .l) (simp length-map at (c .good .0 .1 .1 .1 .1 .1 .1 .0 .1 .0 .1))
+-- all 64 places are there, and as many commands are listed as were counted
+whole : (c : tie.Start Inv-loop μ-loop) → length (c .args .t1 .commands) ≡ 64
+whole c = simp length-map at (c .good .0 .1 .1 .1 .1 .1 .1 .0 .1 .0 .1)
+
+counted : (c : tie.Start Inv-loop μ-loop) → length (listed (c .args .t1)) ≡ c .args .t1 .count
+counted c = listed-length (c .args .t1) (whole c)
 
 loop-holds : tie.Need-loop-holds Inv-loop μ-loop
 loop-holds c = (search needs, refl)
 
-command-of-requires : tie.Need-command-of-requires Inv-loop μ-loop
-command-of-requires c κs = omega arith
+mul-command-is-valid : tie.Need-mul-command-is-valid Inv-loop μ-loop
+mul-command-is-valid c = omega arith
+
+element-copy-out-command-is-valid : tie.Need-element-copy-out-command-is-valid Inv-loop μ-loop
+element-copy-out-command-is-valid c = omega (arith, whole (c .before .before))
 
 command-is-valid-requires : tie.Need-command-is-valid-requires Inv-loop μ-loop
 command-is-valid-requires c κs = omega arith
 
 returns : tie.Need-returns Inv-loop μ-loop
 returns c =
-    let start = c .before .before .before .before .before .before in
-    let l = start .args .l in
-    let here = c .before .before .before .before .before .loop in
-    sym (all-failed (commandIsValid (l .types) (l .kinds) (l .rights)) (listed l) (here .i) (here .inv .1) noCommand
-    (omega (arith, counted start))
-    (cc (not-true (c .before .command-is-valid .result) (c .if2 .taken))))
+    let here = c .before .before .before .before in
+    let l = here .before .args .t1 in
+    let there = listed-at l (whole (here .before)) (here .loop .i) (omega arith) (omega arith) in
+    sym (all-failed (commandIsValid (l .types) (l .kinds) (l .rights)) (listed l) (here .loop .i) (here .loop .inv .1) noCommand
+    (omega (arith, counted (here .before)))
+    (rw there (cc (not-true (c .before .command-is-valid .result) (c .if1 .taken)))))
 
 add-i : tie.Need-add-i Inv-loop μ-loop
 add-i c = omega arith
@@ -53,18 +59,18 @@ loop-less c = omega arith
 loop-again : tie.Need-loop-again Inv-loop μ-loop
 loop-again c = (
   omega arith,
-  let start = c .before .before .before .before .before .before in
-      let l = start .args .l in
-      let here = c .before .before .before .before .before .loop in
-      all-passed (commandIsValid (l .types) (l .kinds) (l .rights)) (listed l) (here .i) (here .inv .1) noCommand
-      (omega (arith, counted start))
-      (cc (not-false (c .before .command-is-valid .result) (c .if2 .left))),
+  let here = c .before .before .before .before in
+      let l = here .before .args .t1 in
+      let there = listed-at l (whole (here .before)) (here .loop .i) (omega arith) (omega arith) in
+      all-passed (commandIsValid (l .types) (l .kinds) (l .rights)) (listed l) (here .loop .i) (here .loop .inv .1) noCommand
+      (omega (arith, counted (here .before)))
+      (rw there (cc (not-false (c .before .command-is-valid .result) (c .if1 .left)))),
 )
 
 returns-2 : tie.Need-returns-2 Inv-loop μ-loop
 returns-2 c =
-    let start = c .before .before .before in
-    sym (all-ended _ (listed (start .args .l)) (c .before .before .loop .i) (c .before .before .loop .inv .1) (omega (arith, counted start)))
+    let here = c .before in
+    sym (all-ended _ (listed (here .before .args .t1)) (here .loop .i) (here .loop .inv .1) (omega (arith, counted (here .before))))
 
 pub all-valid-spec : {M : Type 1} → statement M
 all-valid-spec =
@@ -73,7 +79,8 @@ all-valid-spec =
     Inv-loop
     μ-loop
     loop-holds
-    command-of-requires
+    mul-command-is-valid
+    element-copy-out-command-is-valid
     command-is-valid-requires
     returns
     add-i
