@@ -14,11 +14,11 @@ use Rattle.model.specs.Kinds.{isStep, stepsOf, propagation, deletable, b
 use Rattle.model.specs.Listing.{fires, moved, put, tried, expanded, listedFrom, listing, isDuplicate, firstDuplicate, hasDuplicate, smallStep, smallSteps}
 use Rattle.model.specs.Verdicts.{holds, reported, duplicateFound, verdictFrom, isInRange, createAskedNumber, leavesRows, tableAfter, designAskedNumber}
 use Rattle.model.specs.Outcomes.{verdictAnswer, createCallNumber, readSchemeNumber, schemeRead, readRosterNumber, rosterRead, hasRooms, handedNumber, requestCallNumber, runBatchNumber, batchRun, mayUseCallNumber, mayUseAnswer, accessListNumber, accessListAnswer, designCallNumber}
-use Rattle.model.specs.Lines.{digitByte, trimmed, decimal, hexadecimal, line, lineX, linesR, lineP, linesD, lineE, batchStreamNumber, batchText, linesT, linesC, createLines, verdictText, cardWanted, batchWanted, verdictWanted, tableAfterCreates, textAnswer, batchTextNumber, verdictTextNumber, tableOfStream}
+use Rattle.model.specs.Lines.{digitByte, trimmed, decimal, hexadecimal, line, lineX, linesR, lineP, linesD, lineE, batchStreamNumber, runLines, batchText, lineT, linesT, linesC, commandLines, createLines, verdictText, cardWanted, batchWanted, verdictWanted, tableAfterCommand, tableAfterCreates, textAnswer, batchTextNumber, verdictTextNumber, tableOfStream}
 use Rattle.model.specs.Mill.{commandsA, commandsB, commandsC}
 use Rattle.model.specs.Cases.{outcome, cases, shortcuts}
 use Rattle.model.specs.Worked.{cardA, rosterCard, batchCard}
 
 unfoldable pub computes : Unit {0}
-unfolding bit has within without withThose common meets together fitsRights classOf isCodeByte isHyphen spelled commandIsValid schemeIsValid schemeNumber outOfRange rosterNumber held lose gain act created twoPeople createNumber otherNumber requestNumber carriedOut requested batchNumbers batched isCard commandOf schemeOf isSchemeCard peopleOf isRosterCard requestsOf isBatchCard schemeCardNumber rosterCardNumber batchCardNumber shown isStep stepsOf propagation deletable both isNormal firstNotNormal rowOfCreate clash overlaps ofType rowOfDesign fires moved put tried expanded listedFrom listing isDuplicate firstDuplicate hasDuplicate holds reported duplicateFound verdictFrom isInRange createAskedNumber verdictAnswer createCallNumber digitByte trimmed decimal hexadecimal line lineX linesR lineP linesD lineE batchStreamNumber batchText linesT linesC createLines verdictText commandsA commandsB commandsC outcome cases shortcuts cardA rosterCard batchCard writtenOver padded packed unpadded unpacked rosterOf rosterWords isSound fitsDesign storeNumber namedNumber storeOf storeWords mayUseNumber mayUse accessWords smallStep smallSteps leavesRows tableAfter designAskedNumber readSchemeNumber schemeRead readRosterNumber rosterRead hasRooms handedNumber requestCallNumber runBatchNumber batchRun mayUseCallNumber mayUseAnswer accessListNumber accessListAnswer designCallNumber cardWanted batchWanted verdictWanted tableAfterCreates textAnswer batchTextNumber verdictTextNumber tableOfStream
+unfolding bit has within without withThose common meets together fitsRights classOf isCodeByte isHyphen spelled commandIsValid schemeIsValid schemeNumber outOfRange rosterNumber held lose gain act created twoPeople createNumber otherNumber requestNumber carriedOut requested batchNumbers batched isCard commandOf schemeOf isSchemeCard peopleOf isRosterCard requestsOf isBatchCard schemeCardNumber rosterCardNumber batchCardNumber shown isStep stepsOf propagation deletable both isNormal firstNotNormal rowOfCreate clash overlaps ofType rowOfDesign fires moved put tried expanded listedFrom listing isDuplicate firstDuplicate hasDuplicate holds reported duplicateFound verdictFrom isInRange createAskedNumber verdictAnswer createCallNumber digitByte trimmed decimal hexadecimal line lineX linesR lineP linesD lineE batchStreamNumber runLines batchText lineT linesT linesC commandLines createLines verdictText commandsA commandsB commandsC outcome cases shortcuts cardA rosterCard batchCard writtenOver padded packed unpadded unpacked rosterOf rosterWords isSound fitsDesign storeNumber namedNumber storeOf storeWords mayUseNumber mayUse accessWords smallStep smallSteps leavesRows tableAfter designAskedNumber readSchemeNumber schemeRead readRosterNumber rosterRead hasRooms handedNumber requestCallNumber runBatchNumber batchRun mayUseCallNumber mayUseAnswer accessListNumber accessListAnswer designCallNumber cardWanted batchWanted verdictWanted tableAfterCommand tableAfterCreates textAnswer batchTextNumber verdictTextNumber tableOfStream
 computes = tt

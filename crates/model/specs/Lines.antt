@@ -16,9 +16,10 @@ use Rattle.model.specs.Schemes.{Scheme, isCreate}
 use Rattle.model.specs.Rosters.{Person, nobody}
 use Rattle.model.specs.Forms.{cellAt}
 use Rattle.model.specs.Stores.{Design}
-use Rattle.model.specs.Requests.{batchNumbers, batched, countDone}
+use Rattle.model.specs.Requests.{Request, batchNumbers, batched, countDone}
 use Rattle.model.specs.Cards.{version, bodyLength, schemeOf, peopleOf, requestsOf, schemeCardNumber, rosterCardNumber, batchCardNumber}
 use Rattle.model.specs.Questions.{shown}
+use Rattle.model.specs.Listing.{Row}
 use Rattle.model.specs.Verdicts.{Question, startOfCreate, rowsFrom, verdictFrom, tableAfter}
 use Rattle.model.specs.Outcomes.{hasRoom, onDone}
 
@@ -98,14 +99,18 @@ batchStreamNumber stream =
     rosterCardNumber (schemeOf (cardOf stream)) (cardOf (afterCard stream)) then
     batchCardNumber (cardOf (afterCard (afterCard stream)))
 
--- "The batch program reads scheme, roster and batch cards from standard input, one after the other." It begins with an empty store.
+-- the lines of a batch, which begins with an empty store
+unfoldable pub runLines : Scheme → List Person → List Request → List ℕ
+runLines s people requests =
+    let numbers = batchNumbers s people [] requests in
+    linesR 0 numbers ++ joined (map (linesD people) (batched s people [] requests)) ++ lineE numbers
+
+-- "The batch program reads scheme, roster and batch cards from standard input, one after the other."
 unfoldable pub batchText : List ℕ → List ℕ
 batchText stream =
     let s = schemeOf (cardOf stream) in
     let people = peopleOf (cardOf (afterCard stream)) in
-    let requests = requestsOf (cardOf (afterCard (afterCard stream))) in
-    let numbers = batchNumbers s people [] requests in
-    let lines = linesR 0 numbers ++ joined (map (linesD people) (batched s people [] requests)) ++ lineE numbers in
+    let lines = runLines s people (requestsOf (cardOf (afterCard (afterCard stream)))) in
     lines when eqb (batchStreamNumber stream) 0 else
     lineX (batchStreamNumber stream)
 
@@ -126,10 +131,11 @@ abbrev pub wholeQuestion : Question
 wholeQuestion = record { type = 0; right = 0; budget = mostStates }
 
 -- "T, type, all rights ever listed at it"
+unfoldable pub lineT : List Row → ℕ → List ℕ
+lineT rows t = line "T" (decimal t ∷ hexadecimal (together (map (λ row. cellAt row t) rows)) ∷ [])
+
 unfoldable pub linesT : Scheme → Command → List ℕ
-linesT s c =
-    let rows = rowsFrom (s .commands) (startOfCreate c) mostStates in
-    joined (map (λ t. line "T" (decimal t ∷ hexadecimal (together (map (λ row. cellAt row t) rows)) ∷ [])) (numbersFrom 0 (s .types)))
+linesT s c = joined (map (lineT (rowsFrom (s .commands) (startOfCreate c) mostStates)) (numbersFrom 0 (s .types)))
 
 -- "prints C, command, answer, states; with answer 0, then T"
 unfoldable pub linesC : Scheme → ℕ → Command → List ℕ
@@ -138,12 +144,16 @@ linesC s k c =
     let theirs = linesT s c in
     line "C" (decimal k ∷ decimal (v .number) ∷ decimal (v .states) ∷ []) ++ (theirs when eqb (v .number) 0 else [])
 
+-- of a command: none if it is no create
+unfoldable pub commandLines : Scheme → ℕ → Command → List ℕ
+commandLines s k c =
+    linesC s k c when isCreate c else
+    []
+
 -- of the commands from number k on
 unfoldable pub createLines : Scheme → ℕ → List Command → List ℕ
 createLines s k [] = []
-createLines s k (c ∷ cs) =
-    let lines = linesC s k c in
-    (lines when isCreate c else []) ++ createLines s (suc k) cs
+createLines s k (c ∷ cs) = commandLines s k c ++ createLines s (suc k) cs
 
 unfoldable pub verdictText : List ℕ → List ℕ
 verdictText stream =
@@ -155,10 +165,15 @@ verdictText stream =
 unfoldable pub verdictWanted : List ℕ → ℕ
 verdictWanted stream = cardWanted stream
 
--- the table after the listings of all creates, one over the other
+-- the table after the listing of a command, if it is a create; and after those of all, one over the other
+unfoldable pub tableAfterCommand : List Command → Command → List ℕ → List ℕ
+tableAfterCommand commands c table =
+    tableAfter commands (startOfCreate c) wholeQuestion table when isCreate c else
+    table
+
 unfoldable pub tableAfterCreates : List Command → List Command → List ℕ → List ℕ
 tableAfterCreates commands [] table = table
-tableAfterCreates commands (c ∷ cs) table = tableAfterCreates commands cs (tableAfter commands (startOfCreate c) wholeQuestion table when isCreate c else table)
+tableAfterCreates commands (c ∷ cs) table = tableAfterCreates commands cs (tableAfterCommand commands c table)
 
 -- ---- batch_text: 20, and verdict_text: 20, 15
 

@@ -15,7 +15,7 @@ use model::Verdict;
 use schemes::MOST_COMMANDS;
 use schemes::empty;
 ghost use Rattle.model.specs.Outcomes.{schemeFrom, handedFrom, requestFrom, questionFrom, ReadSchemeOutcome, ReadRosterOutcome, RequestOutcome, RunBatchOutcome, MayUseOutcome, AccessListOutcome, VerdictOfCreateOutcome, VerdictOfDesignOutcome};
-ghost use Rattle.model.specs.Lines.{BatchTextOutcome, BatchWantedOutcome, VerdictWantedOutcome};
+ghost use Rattle.model.specs.Lines.{BatchTextOutcome, VerdictTextOutcome, BatchWantedOutcome, VerdictWantedOutcome};
 ghost use Rattle.ribalonga.specs.Fills.{unfilled, FillsScheme};
 ghost use mathlib.Core.Path.{_≡_};
 
@@ -264,6 +264,14 @@ pub extern "C" fn batch_text(bytes: &[u8], text: &mut [u8]) -> Text
     ensures { λ r. ⌜ BatchTextOutcome (now (bytes .entry)) (now (text .entry)) r (now (text .exit)) ⌝ }
 {
     texts::batch::batch_text(bytes, text)
+}
+
+// The text that the verdict program prints for the bytes it has read.
+#[no_mangle]
+pub extern "C" fn verdict_text(bytes: &[u8], table: &mut [u32], text: &mut [u8]) -> Text
+    ensures { λ r. ⌜ VerdictTextOutcome (now (bytes .entry)) (now (table .entry)) (now (text .entry)) r (now (table .exit)) (now (text .exit)) ⌝ }
+{
+    texts::verdict::verdict_text(bytes, table, text)
 }
 
 // How many more bytes the batch program must read.

@@ -3,7 +3,7 @@
 use Prim.Native.Nat.{ℕ, suc, _+_, _*_, _≤_, _<_}
 use Prim.Native.String.{String}
 use mathlib.Core.Bool.{Bool, true, false, not, cond, _&&_}
-use mathlib.Core.List.{List, [], _∷_, map}
+use mathlib.Core.List.{List, [], _∷_, _++_, map}
 use mathlib.Core.Path.{_≡_}
 use native.Mathlib.Omega.{arith}
 use borrow.Author.Tests.{ltb-true, ltb-false}
@@ -26,13 +26,20 @@ use Rattle.lines.proofs.Figures.{decimal-1, decimal-2, decimal-3, length-decima
 
 -- ---- one line
 
-pub one-word : (letter : String) (a : List ℕ) → length (line letter (a ∷ [])) ≡ length (text letter) + 2 + length a
-unfolding line
-one-word letter a = simp (length-append) (omega arith)
+-- a letter, each word after a space, and the newline
+abbrev pub spaced : List (List ℕ) → ℕ
+spaced [] = 1
+spaced (word ∷ words) = 1 + length word + spaced words
 
-pub two-words : (letter : String) (a b : List ℕ) → length (line letter (a ∷ b ∷ [])) ≡ length (text letter) + 3 + length a + length b
+length-spaced : (words : List (List ℕ)) → length (joined (map (λ word. text " " ++ word) words)) + 1 ≡ spaced words
+length-spaced [] = omega arith
+length-spaced (word ∷ words) =
+    let first = text " " ++ word in
+    omega (arith, length-append first (joined (map (λ word. text " " ++ word) words)), length-append (text " ") word, length-spaced words)
+
+pub line-length : (letter : String) (words : List (List ℕ)) → length (line letter words) ≡ length (text letter) + spaced words
 unfolding line
-two-words letter a b = simp (length-append) (omega arith)
+line-length letter words = simp (length-append) (omega (arith, length-spaced words))
 
 module _ (n : ℕ) where
   pub one-figure : n < 10 → length (decimal n) ≡ 1
@@ -52,7 +59,7 @@ module _ (n : ℕ) where
 
 pub length-lineX : (n : ℕ) → length (lineX n) ≤ 7
 unfolding lineX
-length-lineX n = omega (arith, one-word "X" (decimal n), length-decimal n)
+length-lineX n = omega (arith, line-length "X" (decimal n ∷ []), length-decimal n)
 
 -- ---- answers: "R 255 14"
 
@@ -91,7 +98,7 @@ length-answers s people designs k (q ∷ qs) h =
     let one = line "R" (decimal k ∷ decimal n ∷ []) in
     let rest = length-answers s people (requested s people designs q) (suc k) qs (omega arith) in
     let short : length one ≤ 9 =
-    omega (arith, two-words "R" (decimal k) (decimal n), three-figures k (omega arith), two-figures n (omega (arith, number-small s people designs q))) in
+    omega (arith, line-length "R" (decimal k ∷ decimal n ∷ []), three-figures k (omega arith), two-figures n (omega (arith, number-small s people designs q))) in
     omega (arith, length-append one (linesR (suc k) (batchNumbers s people (requested s people designs q) qs)))
 
 -- ---- designs: "D" and "P"
@@ -101,7 +108,7 @@ module _ {A : Type 0} (f : A → List ℕ) (most : ℕ) where
   length-joined-all [] h = omega arith
   length-joined-all (x ∷ xs) h = omega (arith, length-append (f x) (joined (map f xs)), h x, length-joined-all xs h)
 
-  length-joined-each : (xs : List A) (d : A) → Each (λ x. length (f x) ≤ most) xs d → length (joined (map f xs)) ≤ length xs * most
+  pub length-joined-each : (xs : List A) (d : A) → Each (λ x. length (f x) ≤ most) xs d → length (joined (map f xs)) ≤ length xs * most
   length-joined-each [] d h = omega arith
   length-joined-each (x ∷ xs) d h =
       omega (arith, length-append (f x) (joined (map f xs)), h 0 (omega arith), length-joined-each xs d (λ i l. h (suc i) (omega arith)))
@@ -118,7 +125,7 @@ module _ (people : List Person) (spelt : Each (λ p. spelled (p .code) ≡ true)
   length-person cells p =
       let code = getD people p nobody .code in
       let rights = cellAt cells p in
-      omega (arith, two-words "P" code (hexadecimal rights), code-short p, length-hexadecimal rights)
+      omega (arith, line-length "P" (code ∷ hexadecimal rights ∷ []), code-short p, length-hexadecimal rights)
 
   length-shown : (n : ℕ) (cells : List ℕ) → length (shown n cells) ≤ n
   unfolding shown
@@ -133,7 +140,7 @@ module _ (people : List Person) (spelt : Each (λ p. spelled (p .code) ≡ true)
       omega (
         arith,
         length-append own access,
-        two-words "D" (d .code) (decimal (d .kind)),
+        line-length "D" (d .code ∷ decimal (d .kind) ∷ []),
         one-figure (d .kind) kind,
         spelling (d .code) named .short,
         length-joined-all (lineP people (d .cells)) 24 who (length-person (d .cells)),
@@ -152,7 +159,7 @@ unfolding lineE
 length-end numbers h =
     omega (
       arith,
-      two-words "E" (decimal (length numbers)) (decimal (countDone numbers)),
+      line-length "E" (decimal (length numbers) ∷ decimal (countDone numbers) ∷ []),
       three-figures (length numbers) (omega arith),
       three-figures (countDone numbers) (omega (arith, those-length (λ n. eqb n 0) numbers)),
     )

@@ -44,6 +44,9 @@ answers-grow answers n h i l =
 
 -- ---- access lists
 
+pub first-numbers : (i : ℕ) → numbersFrom 0 (suc i) ≡ numbersFrom 0 i ++ (i ∷ [])
+first-numbers i = numbers-last 0 i ∙ ap (λ (k : ℕ). numbersFrom 0 i ++ (k ∷ [])) (zero-add i)
+
 module _ (people : List Person) (cells : List ℕ) where
   abbrev isShown : ℕ → Bool
   isShown p = not (eqb (cellAt cells p) 0)
@@ -66,8 +69,7 @@ module _ (people : List Person) (cells : List ℕ) where
   unfolding accessText
   access-grow n i l =
       let texts : List ℕ → List ℕ = λ ps. joined (map (lineP people cells) (those isShown ps)) in
-      let last : numbersFrom 0 (suc i) ≡ numbersFrom 0 i ++ (i ∷ []) = numbers-last 0 i ∙ ap (λ (k : ℕ). numbersFrom 0 i ++ (k ∷ [])) (zero-add i) in
-      ap texts last
+      ap texts (first-numbers i)
       ∙ rw (those-append isShown (numbersFrom 0 i) (i ∷ []), map-append, joined-append)
       (ap (λ (t : List ℕ). texts (numbersFrom 0 i) ++ t) (one-shown i))
 

@@ -13,12 +13,12 @@ use Rattle.model.specs.Schemes.{Scheme, schemeNumber}
 use Rattle.model.specs.Rosters.{Person, rosterOf, rosterWords, rosterNumber}
 use Rattle.model.specs.Cards.{schemeOf, peopleOf, requestsOf, schemeCardNumber, rosterCardNumber, batchCardNumber}
 use Rattle.model.specs.Outcomes.{ReadRosterOutcome}
-use Rattle.model.specs.Lines.{lineX, cardOf, afterCard, batchStreamNumber, batchText, batchTextRoom, textAnswer, batchTextNumber, BatchTextOutcome}
+use Rattle.model.specs.Lines.{lineX, runLines, cardOf, afterCard, batchStreamNumber, batchText, batchTextRoom, textAnswer, batchTextNumber, BatchTextOutcome}
 use Rattle.laws.proofs.Tests.{accepted}
 use Rattle.cards.proofs.People.{same-people, roster-held}
 use Rattle.lines.specs.Lines.{Put}
 use Rattle.readers.proofs.Given.{given}
-use Rattle.texts.specs.Printing.{runLines, runText, Printed}
+use Rattle.texts.specs.Printing.{runText, Printed}
 
 -- the text after a part was put
 abbrev pub exit-of : {more : List ℕ} {at : ℕ} {text : List ℕ} {end : ℕ} {exit : List ℕ} → Put more at text end exit → List ℕ
@@ -64,7 +64,7 @@ module _ (stream : List ℕ) where
     roster-refused n e some = refused n (rw (first, ← e, ne-eqb n 0 some)) some
 
     pub both-read : rosterCardNumber scheme (cardOf rest) ≡ 0 → runText scheme (peopleOf (cardOf rest)) (cardOf (afterCard rest)) ≡ batchText stream
-    unfolding batchText batchStreamNumber runText runLines
+    unfolding batchText batchStreamNumber runText
     both-read second = rw (first, second)
 
   -- ---- the outcome

@@ -15,7 +15,7 @@ use Rattle.model.specs.Stores.{Design, noDesign, storeOf, storeWords, isSound, 
 use Rattle.model.specs.Requests.{batchNumbers, batched, countDone}
 use Rattle.model.specs.Cards.{body, requestCount, requestsOf, isBatchCard, batchCardNumber}
 use Rattle.model.specs.Outcomes.{Handed, hasRooms, handedNumber, runBatchNumber, batchRun, RunBatchOutcome}
-use Rattle.model.specs.Lines.{linesR, linesD, lineE, batchTextRoom}
+use Rattle.model.specs.Lines.{linesR, linesD, lineE, runLines, batchTextRoom}
 use Rattle.laws.proofs.Tests.{by-test, accepted}
 use Rattle.laws.proofs.Lists.{Each, those-length, length-written, take-written}
 use Rattle.laws.proofs.Checks.{valid-scheme, valid-roster}
@@ -24,7 +24,6 @@ use Rattle.laws.proofs.Requests.{numbers-length}
 use Rattle.laws.proofs.Kept.{Good, good, good-batched, whole, roster-length}
 use Rattle.readers.proofs.Exits.{length-entries}
 use Rattle.texts.specs.Parts.{answersText, designsText, Stands, KindsFit, runParts}
-use Rattle.texts.specs.Printing.{runLines}
 use Rattle.texts.proofs.Lines.{designs-all}
 use Rattle.texts.proofs.Lengths.{length-answers, length-designs, length-end}
 

@@ -1,25 +1,18 @@
 -- What the batch program prints once its scheme and its roster are read, and what printing gives.
 -- Assumes nothing.
 use Prim.Native.Nat.{ℕ}
-use mathlib.Core.List.{List, [], _++_, map}
+use mathlib.Core.List.{List}
 use mathlib.Core.Path.{_≡_}
 use lib.Dec.{eqb}
 use lib.ListN.{length}
 use Rattle.model.specs.declared.Text.{Text}
-use Rattle.model.specs.Words.{_when_else_, joined, writtenOver}
+use Rattle.model.specs.Words.{_when_else_, writtenOver}
 use Rattle.model.specs.Schemes.{Scheme}
 use Rattle.model.specs.Rosters.{Person}
-use Rattle.model.specs.Requests.{Request, batchNumbers, batched}
 use Rattle.model.specs.Cards.{requestsOf, batchCardNumber}
-use Rattle.model.specs.Lines.{lineX, linesR, linesD, lineE}
+use Rattle.model.specs.Lines.{lineX, runLines}
 
--- the lines of a batch that starts with an empty store
-unfoldable pub runLines : Scheme → List Person → List Request → List ℕ
-runLines s people requests =
-    let numbers = batchNumbers s people [] requests in
-    linesR 0 numbers ++ joined (map (linesD people) (batched s people [] requests)) ++ lineE numbers
-
--- those of the batch card, or its number
+-- the lines of the batch card, or its number
 unfoldable pub runText : Scheme → List Person → List ℕ → List ℕ
 runText s people card =
     runLines s people (requestsOf card) when eqb (batchCardNumber card) 0 else

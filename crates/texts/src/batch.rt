@@ -2,9 +2,9 @@
 // printed alone.
 use crate::parts::put_answers;
 use crate::parts::put_designs;
+use crate::refusal::print_refusal;
 use cards::scheme::read_scheme;
 use lines::line_e;
-use lines::line_x;
 use lines::put;
 use model::Text;
 use readers::roster_on;
@@ -17,7 +17,7 @@ ghost use lib.ListN.{length};
 ghost use Rattle.model.specs.Schemes.{schemeNumber};
 ghost use Rattle.model.specs.Rosters.{rosterOf, rosterNumber};
 ghost use Rattle.model.specs.Stores.{storeOf};
-ghost use Rattle.model.specs.Lines.{lineX, batchTextRoom, BatchTextOutcome};
+ghost use Rattle.model.specs.Lines.{batchTextRoom, BatchTextOutcome};
 ghost use Rattle.schemes.specs.Loads.{schemeIn};
 ghost use Rattle.lines.specs.Lines.{Put};
 ghost use Rattle.texts.specs.Parts.{Stands, KindsFit, runParts};
@@ -25,18 +25,6 @@ ghost use Rattle.texts.specs.Printing.{runText, Printed};
 
 // The most bytes that the sizes allow: 256 answers, 64 designs with 32 people each, and the last line.
 const ROOM: usize = 52554;
-
-// The number of a refused card, alone.
-fn print_refusal(text: &mut [u8], number: u8) -> Text
-    requires { ⌜ batchTextRoom ≤ length (now text) ⌝ }
-    ensures { λ r. ⌜ Printed (lineX number) (now (text .entry)) r (now (text .exit)) ⌝ }
-{
-    let end = put(text, 0, line_x(number as usize));
-    Text {
-        number: 0,
-        bytes: end,
-    }
-}
 
 // What a batch left: its answers, the designs, and its two counts.
 fn put_run(

@@ -2,3 +2,5 @@
 // `model`'s Lines. Inner functions: the public calls go through them, and none is offered outside.
 pub mod batch;
 pub mod parts;
+pub mod refusal;
+pub mod verdict;

@@ -1,11 +1,11 @@
--- `texts::batch::print_refusal` meets its contract: one line is put at the beginning. Assumes nothing.
+-- `texts::refusal::print_refusal` meets its contract: one line is put at the beginning. Assumes nothing.
 use native.Mathlib.Omega.{arith}
 use Rattle.lines.proofs.Texts.{put-said, line-room}
 use Rattle.texts.proofs.Lengths.{length-lineX}
 use Rattle.texts.proofs.Printing.{printed}
 use borrow.Author.Needs.{needs}
-use Rattle.texts.proofs.batch.print_refusal.Statement.{statement}
-use Rattle.texts.proofs.batch.print_refusal.Tie as tie
+use Rattle.texts.proofs.refusal.print_refusal.Statement.{statement}
+use Rattle.texts.proofs.refusal.print_refusal.Tie as tie
 
 line-x-requires : tie.Need-line-x-requires
 line-x-requires c κs = search needs
