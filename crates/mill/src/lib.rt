@@ -5,6 +5,8 @@ ghost use Rattle.model.specs.Mill.{commandsA, commandsB};
 ghost use Rattle.mill.specs.Tables.{commandOf, commandsOf};
 use model::Command;
 
+pub mod papers;
+
 // Scheme A: a command a line, its form, source and destination type, kind, X, Y and Z.
 const A: [[u32; 7]; 7] = [
     [1, 0, 0, 0, 0x00, 0x00, 0x03],
