@@ -1,13 +1,13 @@
 // The batch program: reads scheme, roster and batch cards from standard input, one after the other, and prints the text that the
 // library gives for them. It reads, calls and writes; what it prints is proved of `batch_text`.
-use libc::STDIN_FILENO;
+use input::read_some;
 use libc::STDOUT_FILENO;
 ghost use Prim.Native.Nat.{_≤_};
 ghost use mathlib.Core.Path.{_≡_};
 ghost use lib.ListN.{length};
 
-// A header and a body for each of the three cards.
-const TURNS: usize = 6;
+// The most bytes of three cards.
+const MOST_STREAM: usize = 196608;
 
 // Reads the cards, and no byte more; how many bytes they have.
 fn read_cards(stream: &mut [u8]) -> usize
@@ -15,18 +15,17 @@ fn read_cards(stream: &mut [u8]) -> usize
     ensures { λ r. ⌜ r ≤ 196608 ⌝ }
 {
     let mut n = 0;
-    let mut turns = TURNS;
-    while turns > 0 {
+    while n < MOST_STREAM {
         let wanted = ribalonga::batch_wanted(&stream[..n]);
         if wanted == 0 {
             break;
         }
         let end = n + wanted;
-        n += io::read_full(STDIN_FILENO, &mut stream[n..end]);
-        if n < end {
+        let got = read_some(&mut stream[n..end]);
+        if got == 0 {
             break;
         }
-        turns -= 1;
+        n += got;
     }
     n
 }

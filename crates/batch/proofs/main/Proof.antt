@@ -8,11 +8,6 @@ use Rattle.streams.proofs.Fits.{text-within}
 use borrow.Author.Needs.{needs}
 use Rattle.batch.proofs.main.Statement.{statement}
 use Rattle.batch.proofs.main.Tie as tie
-use Rattle.batch.proofs.main.Reads as reads
-use Rattle.batch.proofs.main.Lts as lts
-use Rattle.batch.proofs.read_cards.Reads as read-cards-reads
-use Rattle.io.proofs.write_all.Reads as write-all-reads
-use Rattle.ribalonga.proofs.batch_text.Reads as batch-text-reads
 
 -- what is printed is within the text
 printed : (c : tie.After-batch-text) → c .batch-text .result .bytes ≤ length (c .batch-text .last .1 .0)

@@ -1,4 +1,5 @@
--- `batch::read_cards` meets its contract. The invariant: the bytes read are within the stream's room. Assumes nothing.
+-- `batch::read_cards` meets its contract. The invariant: the bytes read are within the stream's room. Each turn reads some byte.
+-- Assumes nothing.
 use Prim.Native.Nat.{_+_, _-_, _≤_}
 use mathlib.Core.Path.{_≡_, sym}
 use native.Mathlib.Omega.{arith}
@@ -9,16 +10,12 @@ use borrow.Author.Needs.{needs}
 use Rattle.streams.proofs.Fits.{cards-fit}
 use Rattle.batch.proofs.read_cards.Statement.{statement}
 use Rattle.batch.proofs.read_cards.Tie as tie
-use Rattle.batch.proofs.read_cards.Reads as reads
-use Rattle.batch.proofs.read_cards.Lts as lts
-use Rattle.io.proofs.read_full.Reads as read-full-reads
-use Rattle.ribalonga.proofs.batch_wanted.Reads as batch-wanted-reads
 
 abbrev Inv-loop : tie.InvT-loop
-Inv-loop stream₀ n₀ turns₀ stream n turns = (196608 ≡ length stream) × (n ≤ 196608)
+Inv-loop stream₀ n₀ stream n = (196608 ≡ length stream) × (n ≤ 196608)
 
 abbrev μ-loop : tie.MeasureT-loop
-μ-loop stream₀ n₀ turns₀ stream n turns = turns
+μ-loop stream₀ n₀ stream n = 196608 - n
 
 -- at every turn: the bytes read are within the stream, and so is what is still wanted behind them
 within : (c : tie.In-loop Inv-loop μ-loop) → c .before .loop .n ≤ length (c .before .loop .stream)
@@ -27,7 +24,14 @@ within c = omega (arith, c .before .loop .inv .0, c .before .loop .inv .1)
 fits : (c : tie.Else1 Inv-loop μ-loop) → c .before .before .before .before .loop .n + c .before .batch-wanted .result ≤ 196608
 fits c =
     let here = c .before .before .before .before .loop in
-    omega (arith, c .before .batch-wanted .ensures .answer-is, cards-fit (take (here .n) (here .stream)), length-take-le (here .n) (here .stream) (within (c .before .before .before)), here .inv .1)
+    omega (
+      arith,
+      c .before .batch-wanted .ensures .answer-is,
+      cards-fit (take (here .n) (here .stream)),
+      length-take-le (here .n) (here .stream)
+          (within (c .before .before .before)),
+      here .inv .1,
+    )
 
 part : (c : tie.Else1 Inv-loop μ-loop)
     → let here = c .before .before .before .before .loop in
@@ -51,26 +55,23 @@ batch-wanted-requires c κs = search needs
 add-end : tie.Need-add-end Inv-loop μ-loop
 add-end c = omega (arith, fits c)
 
-sub-read-full : tie.Need-sub-read-full Inv-loop μ-loop
-sub-read-full c = search needs
+sub-read-some : tie.Need-sub-read-some Inv-loop μ-loop
+sub-read-some c = search needs
 
-part-read-full-start : tie.Need-part-read-full-start Inv-loop μ-loop
-part-read-full-start c = search needs
+part-read-some-start : tie.Need-part-read-some-start Inv-loop μ-loop
+part-read-some-start c = search needs
 
-part-read-full-end : tie.Need-part-read-full-end Inv-loop μ-loop
-part-read-full-end c = omega (arith, fits c)
+part-read-some-end : tie.Need-part-read-some-end Inv-loop μ-loop
+part-read-some-end c = omega (arith, fits c)
 
-read-full-requires : tie.Need-read-full-requires Inv-loop μ-loop
-read-full-requires c κs = search needs
+read-some-requires : tie.Need-read-some-requires Inv-loop μ-loop
+read-some-requires c κs = search needs
 
 add-n : tie.Need-add-n Inv-loop μ-loop
-add-n c = omega (arith, part (c .before .before .before .before), fits (c .before .before .before .before))
-
-sub-turns : tie.Need-sub-turns Inv-loop μ-loop
-sub-turns c = search needs
+add-n c = omega (arith, part (c .before .before .before .before .before), fits (c .before .before .before .before .before))
 
 loop-less : tie.Need-loop-less Inv-loop μ-loop
-loop-less c = search needs
+loop-less c = omega (arith, part (c .before .before .before .before .before), fits (c .before .before .before .before .before))
 
 loop-again : tie.Need-loop-again Inv-loop μ-loop
 loop-again c = search (needs, part (c .before .before .before .before .before), fits (c .before .before .before .before .before))
@@ -91,7 +92,7 @@ same-length-3 : tie.Need-same-length-3 Inv-loop μ-loop
 same-length-3 c = search needs
 
 returns-3 : tie.Need-returns-3 Inv-loop μ-loop
-returns-3 c = omega (arith, part (c .before .before .before .before .before), fits (c .before .before .before .before .before))
+returns-3 c = search needs
 
 pub read-cards-spec : {M : Type 1} → statement M
 read-cards-spec =
@@ -104,12 +105,11 @@ read-cards-spec =
     slice-aggregate-batch-wanted
     batch-wanted-requires
     add-end
-    sub-read-full
-    part-read-full-start
-    part-read-full-end
-    read-full-requires
+    sub-read-some
+    part-read-some-start
+    part-read-some-end
+    read-some-requires
     add-n
-    sub-turns
     loop-less
     loop-again
     same-length
