@@ -6,7 +6,8 @@ ghost use Rattle.model.specs.declared.Command.{Command};
 ghost use Rattle.model.specs.Words.{any, numbersFrom};
 ghost use Rattle.model.specs.Rosters.{rosterOf};
 ghost use Rattle.model.specs.Kinds.{both, overlaps};
-ghost use Rattle.kinds.specs.Designs.{Placed, cellsAt, share, clashBy};
+ghost use Rattle.stores.specs.Standing.{Placed};
+ghost use Rattle.kinds.specs.Designs.{cellsAt, share, clashBy};
 
 // Two people have one type, and hold the same right of the set at the design.
 fn share(

@@ -7,7 +7,8 @@ ghost use Prim.Native.Nat.{_<_};
 ghost use Rattle.model.specs.Sizes.{rowWords};
 ghost use Rattle.model.specs.Rosters.{rosterOf};
 ghost use Rattle.model.specs.Kinds.{rowOfCreate, ofType, rowOfDesign};
-ghost use Rattle.kinds.specs.Designs.{Placed, cellsAt};
+ghost use Rattle.stores.specs.Standing.{Placed};
+ghost use Rattle.kinds.specs.Designs.{cellsAt};
 
 // A create command: Z at its source type.
 pub fn row_of_create(c: Command) -> Row

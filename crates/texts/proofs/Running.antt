@@ -22,8 +22,9 @@ use Rattle.laws.proofs.Checks.{valid-scheme, valid-roster}
 use Rattle.laws.proofs.Stores.{store-of-words, store-words-length}
 use Rattle.laws.proofs.Requests.{numbers-length}
 use Rattle.laws.proofs.Kept.{Good, good, good-batched, whole, roster-length}
+use Rattle.stores.specs.Standing.{Stands}
 use Rattle.readers.proofs.Exits.{length-entries}
-use Rattle.texts.specs.Parts.{answersText, designsText, Stands, KindsFit, runParts}
+use Rattle.texts.specs.Parts.{answersText, designsText, KindsFit, runParts}
 use Rattle.texts.proofs.Lines.{designs-all}
 use Rattle.texts.proofs.Lengths.{length-answers, length-designs, length-end}
 
@@ -123,10 +124,10 @@ module _ (s : Scheme) (count : ℕ) (roster store card answers : List ℕ) where
             let left = left-good in
             let long = store-words-length designs store (left .celled) (left .check .few) (omega (arith, fresh .store-long)) in
             record {
-              people = omega (arith, valid-roster (s .types) people (fresh .roster-is) .few, roster-length count roster);
+              few-people = omega (arith, valid-roster (s .types) people (fresh .roster-is) .few, roster-length count roster);
               roster-room = fresh .roster-room;
               store-room = rw store-is (omega (arith, long, fresh .store-long));
-              designs = rw designs-are (left .check .few);
+              few-designs = rw designs-are (left .check .few);
             }
 
         pub kinds-fit : KindsFit storeExit

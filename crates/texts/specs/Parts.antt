@@ -1,15 +1,16 @@
 -- The parts of the batch program's text, and what the functions that put them are handed.
 -- Assumes nothing.
-use Prim.Native.Nat.{ℕ, _≤_, _<_}
+use Prim.Native.Nat.{ℕ, _<_}
 use mathlib.Core.Bool.{not}
 use mathlib.Core.List.{List, [], _∷_, _++_, map}
 use lib.Dec.{eqb}
-use lib.ListN.{length, getD, take}
+use lib.ListN.{length, take}
 use Rattle.model.specs.Words.{_when_else_, joined, those, numbersFrom}
 use Rattle.model.specs.Rosters.{Person}
 use Rattle.model.specs.Forms.{cellAt}
-use Rattle.model.specs.Stores.{Design, noDesign, storeOf}
+use Rattle.model.specs.Stores.{Design, storeOf}
 use Rattle.model.specs.Lines.{decimal, line, linesR, lineP, linesD}
+use Rattle.stores.specs.Standing.{designIn}
 
 -- the lines of the first i answers
 abbrev pub answersText : List ℕ → ℕ → List ℕ
@@ -28,16 +29,6 @@ accessText people cells i = joined (map (lineP people cells) (those (λ p. not (
 -- the lines of the first i designs
 unfoldable pub designsText : List Person → List Design → ℕ → List ℕ
 designsText people designs i = joined (map (linesD people) (take i designs))
-
--- a roster and a store in lent words, as they stand after the checks
-pub record Stands (count : ℕ) (roster store : List ℕ) : Type 0 where
-  pub people : count ≤ 32
-  pub roster-room : 128 ≤ length roster
-  pub store-room : 2305 ≤ length store
-  pub designs : length (storeOf store) ≤ 64
-
-abbrev pub designIn : List ℕ → ℕ → Design
-designIn store place = getD (storeOf store) place noDesign
 
 -- every kind is a number that can be printed
 abbrev pub KindsFit : List ℕ → Type 0

@@ -19,8 +19,9 @@ ghost use Rattle.model.specs.Rosters.{rosterOf, rosterNumber};
 ghost use Rattle.model.specs.Stores.{storeOf};
 ghost use Rattle.model.specs.Lines.{batchTextRoom, BatchTextOutcome};
 ghost use Rattle.schemes.specs.Loads.{schemeIn};
+ghost use Rattle.stores.specs.Standing.{Stands};
 ghost use Rattle.lines.specs.Lines.{Put};
-ghost use Rattle.texts.specs.Parts.{Stands, KindsFit, runParts};
+ghost use Rattle.texts.specs.Parts.{KindsFit, runParts};
 ghost use Rattle.texts.specs.Printing.{runText, Printed};
 
 // The most bytes that the sizes allow: 256 answers, 64 designs with 32 people each, and the last line.

@@ -8,8 +8,9 @@ ghost use lib.ListN.{length};
 ghost use Rattle.model.specs.Rosters.{rosterOf};
 ghost use Rattle.model.specs.Stores.{storeOf};
 ghost use Rattle.model.specs.Lines.{linesD};
+ghost use Rattle.stores.specs.Standing.{Stands, Placed, designIn};
 ghost use Rattle.lines.specs.Lines.{Put};
-ghost use Rattle.texts.specs.Parts.{answersText, personText, accessText, designsText, Stands, designIn, KindsFit};
+ghost use Rattle.texts.specs.Parts.{answersText, personText, accessText, designsText, KindsFit};
 
 // The answers of a batch, a line each.
 pub fn put_answers(text: &mut [u8], at: usize, answers: &[u8], n: usize) -> usize
@@ -35,7 +36,7 @@ fn put_person(
     place: usize,
     p: usize,
 ) -> usize
-    requires { ⌜ Stands people (now roster) (now store) × (place < length (storeOf (now store))) × (p < people) × (at + length (personText (rosterOf people (now roster)) (designIn (now store) place .cells) p) ≤ length (now text)) ⌝ }
+    requires { ⌜ Placed people (now roster) (now store) place × (p < people) × (at + length (personText (rosterOf people (now roster)) (designIn (now store) place .cells) p) ≤ length (now text)) ⌝ }
     ensures { λ r. ⌜ Put (personText (rosterOf people (now (roster .entry))) (designIn (now (store .entry)) place .cells) p) at (now (text .entry)) r (now (text .exit)) ⌝ }
 {
     let cell = stores::cell_at(store, place, p);
@@ -54,7 +55,7 @@ fn put_access(
     store: &[u32],
     place: usize,
 ) -> usize
-    requires { ⌜ Stands people (now roster) (now store) × (place < length (storeOf (now store))) × (at + length (accessText (rosterOf people (now roster)) (designIn (now store) place .cells) people) ≤ length (now text)) ⌝ }
+    requires { ⌜ Placed people (now roster) (now store) place × (at + length (accessText (rosterOf people (now roster)) (designIn (now store) place .cells) people) ≤ length (now text)) ⌝ }
     ensures { λ r. ⌜ Put (accessText (rosterOf people (now (roster .entry))) (designIn (now (store .entry)) place .cells) people) at (now (text .entry)) r (now (text .exit)) ⌝ }
 {
     let mut end = at;
@@ -75,7 +76,7 @@ fn put_design(
     store: &[u32],
     place: usize,
 ) -> usize
-    requires { ⌜ Stands people (now roster) (now store) × (place < length (storeOf (now store))) × (designIn (now store) place .kind < 10000) × (at + length (linesD (rosterOf people (now roster)) (designIn (now store) place)) ≤ length (now text)) ⌝ }
+    requires { ⌜ Placed people (now roster) (now store) place × (designIn (now store) place .kind < 10000) × (at + length (linesD (rosterOf people (now roster)) (designIn (now store) place)) ≤ length (now text)) ⌝ }
     ensures { λ r. ⌜ Put (linesD (rosterOf people (now (roster .entry))) (designIn (now (store .entry)) place)) at (now (text .entry)) r (now (text .exit)) ⌝ }
 {
     let code = stores::code_at(store, place);

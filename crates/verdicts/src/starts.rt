@@ -16,7 +16,7 @@ ghost use Rattle.model.specs.Rosters.{rosterOf};
 ghost use Rattle.model.specs.Stores.{noDesign, storeOf};
 ghost use Rattle.model.specs.Verdicts.{startOfCreate, startOfDesign};
 ghost use Rattle.schemes.specs.Loads.{listed};
-ghost use Rattle.kinds.specs.Designs.{Placed};
+ghost use Rattle.stores.specs.Standing.{Placed};
 ghost use Rattle.verdicts.specs.Asking.{asked, Askable, Answered};
 
 // From a create command: no two people overlap in it.

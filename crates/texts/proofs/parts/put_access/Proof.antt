@@ -3,9 +3,10 @@ use Prim.Native.Nat.{_-_, _≤_}
 use mathlib.Core.Path.{_≡_, ap}
 use native.Mathlib.Omega.{arith}
 use Rattle.model.specs.Rosters.{rosterOf}
+use Rattle.stores.specs.Standing.{designIn}
 use Rattle.lines.specs.Lines.{Put}
 use Rattle.lines.proofs.Texts.{put-none, put-length}
-use Rattle.texts.specs.Parts.{personText, accessText, designIn}
+use Rattle.texts.specs.Parts.{personText, accessText}
 use Rattle.texts.proofs.Growing.{part-room, part-put}
 use Rattle.texts.proofs.Lines.{access-grow}
 use Rattle.texts.proofs.parts.put_access.Statement.{statement}
@@ -32,9 +33,8 @@ put-person-requires c κs =
     let people = rosterOf (a .people) (a .roster .now) in
     let cells = designIn (a .store .now) (a .place) .cells in (
       start .pre .0,
-      start .pre .1,
       turn .loop-test .taken,
-      part-room (accessText people cells) (personText people cells) (a .people) (access-grow people cells (a .people)) (a .at) (a .text .now) (start .pre .2)
+      part-room (accessText people cells) (personText people cells) (a .people) (access-grow people cells (a .people)) (a .at) (a .text .now) (start .pre .1)
           (here .p) (turn .loop-test .taken) (here .inv .1),
     )
 
@@ -54,7 +54,7 @@ loop-again c =
     let people = rosterOf (a .people) (a .roster .now) in
     let cells = designIn (a .store .now) (a .place) .cells in (
       omega arith,
-      part-put (accessText people cells) (personText people cells) (a .people) (access-grow people cells (a .people)) (a .at) (a .text .now) (start .pre .2)
+      part-put (accessText people cells) (personText people cells) (a .people) (access-grow people cells (a .people)) (a .at) (a .text .now) (start .pre .1)
           (here .p) (turn .loop-test .taken) (here .inv .1) (call .put-person .ensures),
     )
 

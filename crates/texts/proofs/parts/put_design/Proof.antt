@@ -7,9 +7,10 @@ use lib.ListN.{length, length-append}
 use Rattle.model.specs.Rosters.{rosterOf}
 use Rattle.model.specs.Lines.{decimal, line}
 use Rattle.laws.proofs.Kept.{roster-length}
+use Rattle.stores.specs.Standing.{designIn}
 use Rattle.lines.specs.Lines.{Says}
 use Rattle.lines.proofs.Texts.{put-put, put-said, put-length, line-room}
-use Rattle.texts.specs.Parts.{accessText, designIn}
+use Rattle.texts.specs.Parts.{accessText}
 use Rattle.texts.proofs.Lines.{design-lines, design-said}
 use borrow.Author.Needs.{needs}
 use Rattle.texts.proofs.parts.put_design.Statement.{statement}
@@ -36,7 +37,7 @@ rooms c =
     let people = rosterOf (a .people) (a .roster .now) in
     omega (
       arith,
-      c .pre .3,
+      c .pre .2,
       ap length (design-lines people d (a .people) (roster-length (a .people) (a .roster .now))),
       length-append (line "D" (d .code ∷ decimal (d .kind) ∷ [])) (accessText people (d .cells) (a .people)),
     )
@@ -60,7 +61,7 @@ put-access-requires c κs =
     let call = c .before .before .before in
     let start = call .before .before .before .before .before .before .before .before in
     let line-put = put-said (call .put .ensures) (said (call .before) .says) in
-    (start .pre .0, start .pre .1, omega (arith, rooms start, line-put .ends, put-length line-put))
+    (start .pre .0, omega (arith, rooms start, line-put .ends, put-length line-put))
 
 same-length : tie.Need-same-length
 same-length c = search needs

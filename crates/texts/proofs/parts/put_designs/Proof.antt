@@ -6,9 +6,10 @@ use lib.ListN.{length}
 use Rattle.model.specs.Rosters.{rosterOf}
 use Rattle.model.specs.Stores.{storeOf}
 use Rattle.model.specs.Lines.{linesD}
+use Rattle.stores.specs.Standing.{designIn}
 use Rattle.lines.specs.Lines.{Put}
 use Rattle.lines.proofs.Texts.{put-none, put-length}
-use Rattle.texts.specs.Parts.{designsText, designIn}
+use Rattle.texts.specs.Parts.{designsText}
 use Rattle.texts.proofs.Growing.{part-room, part-put}
 use Rattle.texts.proofs.Lines.{designs-grow}
 use Rattle.texts.proofs.parts.put_designs.Statement.{statement}
@@ -38,8 +39,7 @@ put-design-requires c κs =
     let a = start .args in
     let people = rosterOf (a .people) (a .roster .now) in
     let designs = storeOf (a .store .now) in (
-      start .pre .0,
-      omega arith,
+      (start .pre .0, omega arith),
       start .pre .1 (here .place) (omega arith),
       part-room (designsText people designs) (λ i. linesD people (designIn (a .store .now) i)) (length designs) (designs-grow people designs) (a .at) (a .text .now)
           (start .pre .2) (here .place) (omega arith) (here .inv .2),

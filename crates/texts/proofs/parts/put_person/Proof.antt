@@ -2,9 +2,10 @@
 use mathlib.Core.Path.{sym, _∙_}
 use native.Mathlib.Omega.{arith}
 use Rattle.model.specs.Rosters.{rosterOf}
+use Rattle.stores.specs.Standing.{designIn}
 use Rattle.lines.specs.Lines.{Says}
 use Rattle.lines.proofs.Texts.{put-none, put-said, line-room}
-use Rattle.texts.specs.Parts.{personText, designIn}
+use Rattle.texts.specs.Parts.{personText}
 use Rattle.texts.proofs.Lines.{person-none, person-said}
 use borrow.Author.Needs.{needs}
 use Rattle.texts.proofs.parts.put_person.Statement.{statement}
@@ -19,7 +20,7 @@ said c =
     let start = else1 .before .before .before .before .before in
     let a = start .args in
     person-said (rosterOf (a .people) (a .roster .now)) (designIn (a .store .now) (a .place) .cells) _ _ (a .p) (c .line-p .ensures)
-    (c .before .code-at .ensures (a .people) (start .pre .2)) (else1 .before .cell-at .ensures) (else1 .if1 .left)
+    (c .before .code-at .ensures (a .people) (start .pre .1)) (else1 .before .cell-at .ensures) (else1 .if1 .left)
 
 cell-at-requires : tie.Need-cell-at-requires
 cell-at-requires c κs = search needs
@@ -39,7 +40,7 @@ line-p-requires c κs = search needs
 put-requires : tie.Need-put-requires
 put-requires c κs =
     let start = c .before .before .before .before .before .before .before .before in
-    line-room (said c) (start .args .at) (start .args .text .now) (start .pre .3)
+    line-room (said c) (start .args .at) (start .args .text .now) (start .pre .2)
 
 same-length : tie.Need-same-length
 same-length c = search needs

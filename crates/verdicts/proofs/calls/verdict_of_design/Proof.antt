@@ -153,13 +153,10 @@ from-design-requires c κs =
     let b = z .before .before .before .before in
     let a = args b .args in
     let f = fits z in (
-      record {
-        few-people = f .people;
-        roster-room = f .roster-room;
-        store-room = f .store-room;
-        few-designs = f .designs;
-        there = rw (place .place-named .ensures) (named-there (designsIn (handed b)) (code b) (named d) .1);
-      },
+      (
+        record { few-people = f .people; roster-room = f .roster-room; store-room = f .store-room; few-designs = f .designs },
+        rw (place .place-named .ensures) (named-there (designsIn (handed b)) (code b) (named d) .1),
+      ),
       askable (scheme b) (whole b) (handed-valid (handed b) (zero z)) (a .t) (a .right) (a .budget) (words b) (range i),
     )
 
