@@ -1,14 +1,10 @@
 -- `questions::may_use_number`: the tests are the definition's, in its order. Assumes nothing.
 use mathlib.Core.Path.{_≡_, sym, _∙_}
-use Prim.Native.Nat.{_≤_}
 use borrow.Author.Needs.{needs}
 use borrow.Author.Tests.{not-false}
-use lib.ListN.{length}
-use Rattle.model.specs.Sizes.{rosterRoom, storeRoom}
-use Rattle.model.specs.Stores.{storeOf}
 use Rattle.model.specs.Outcomes.{Handed, hasRooms}
-use Rattle.handed.specs.Handing.{handedBy, Accepted}
-use Rattle.handed.proofs.Numbers.{rooms, Sized, sized}
+use Rattle.handed.specs.Handing.{handedBy}
+use Rattle.handed.proofs.Numbers.{rooms, sized}
 use Rattle.questions.proofs.Asked.{no-room, not-handed, was-accepted, no-right, no-person, named}
 use Rattle.questions.proofs.may_use_number.Statement.{statement}
 use Rattle.questions.proofs.may_use_number.Tie as tie

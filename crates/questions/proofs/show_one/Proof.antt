@@ -1,5 +1,4 @@
 -- `questions::show_one`: an empty cell leaves the list, and another adds a pair. Assumes nothing.
-use mathlib.Core.Path.{refl}
 use native.Mathlib.Omega.{arith}
 use borrow.Author.Needs.{needs}
 use borrow.Author.Tests.{eq-eqb, ne-eqb}

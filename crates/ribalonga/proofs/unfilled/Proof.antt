@@ -2,7 +2,6 @@
 use mathlib.Core.Path.{ap}
 use borrow.Author.Needs.{needs}
 use Rattle.schemes.specs.declared.Loaded.{Loaded}
-use Rattle.lent.specs.declared.Filled.{Filled}
 use Rattle.ribalonga.proofs.unfilled.Statement.{statement}
 use Rattle.ribalonga.proofs.unfilled.Tie as tie
 
