@@ -1,4 +1,4 @@
--- The laws behind the proofs of this crate, and (People, Places) what its callers want to know of what they read.
+-- The laws behind the proofs of this crate. Whoever reads a card cites them too.
 pub mod Filling
 pub mod Places
 pub mod Commands

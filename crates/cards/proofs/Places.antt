@@ -9,8 +9,7 @@ use native.Mathlib.Omega.{arith}
 use lib.ListN.{getD, take, drop}
 use lib.Seq.{take-take, take-nil, drop-drop, getD-take, getD-drop}
 use Rattle.model.specs.Words.{bigEndian}
-use Rattle.model.specs.Cards.{commandOf, entrySize, entriesFill, requestOfEntry}
-use Rattle.laws.proofs.Tests.{and-iff}
+use Rattle.model.specs.Cards.{commandOf, entrySize, requestOfEntry}
 use Rattle.cards.specs.declared.batch.Next.the-variants.{Request, PastEnd}
 use Rattle.cards.specs.Entries.{isWhole, nextOf}
 
@@ -70,12 +69,6 @@ module _ (rest : List ℕ) where
   pub next-whole : isWhole 4 rest ≡ true → nextOf rest ≡ Request (getD rest 0 0) (getD rest 1 0) (getD rest 2 0) (entrySize 4 rest)
   unfolding nextOf
   next-whole e = rw (e, in-entry 0 (omega arith), in-entry 1 (omega arith), in-entry 2 (omega arith))
-
-  -- among entries that fill the rest, the first is a request
-  pub next-filled : (n : ℕ) → entriesFill 4 (suc n) rest ≡ true
-      → nextOf rest ≡ Request (getD rest 0 0) (getD rest 1 0) (getD rest 2 0) (entrySize 4 rest)
-  unfolding isWhole
-  next-filled n h = next-whole (and-iff (isWhole 4 rest) (entriesFill 4 n (drop (entrySize 4 rest) rest)) .0 h .0)
 
   -- its record: those fields, and what is left of its size as the code
   pub request-in : requestOfEntry (take (entrySize 4 rest) rest)

@@ -1,6 +1,6 @@
 // The readers of the three cards: what is a card at all, what fills one, and the records that stand on it. Meets the definitions of `model`'s Cards,
-// part by part under the same names. Each answers for a slice of any length. Inner functions: the public calls and the programs go through them, and
-// none is offered outside.
+// part by part under the same names. Each answers for a slice of any length. Inner functions: the public calls go through them, and none is offered
+// outside.
 pub mod batch;
 pub mod entries;
 pub mod roster;

@@ -46,3 +46,8 @@ pub line-said : {l r : Line} (letter : String) (words : List (List ℕ)) → Say
     → Says r (line letter words)
 unfolding line
 line-said letter words s p = says-longer s p
+
+-- a whole line of two words
+pub two-words-said : {l m n r : Line} {a b : List ℕ} (letter : String) → Says l (text letter ++ spaced []) → Longer l (text " " ++ a) m → Longer m (text " " ++ b) n
+    → Longer n (text "\n") r → Says r (line letter (a ∷ b ∷ []))
+two-words-said {a = a} {b = b} letter s p q e = line-said letter (a ∷ b ∷ []) (word-said letter (a ∷ []) (word-said letter [] s p) q) e

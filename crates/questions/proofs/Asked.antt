@@ -1,7 +1,7 @@
 -- The numbers of the question and of the access list at each exit of their checks, with the answers of the calls on the way; and what a 0 tells.
 -- Assumes nothing.
 use Prim.Native.Nat.{ℕ, suc, _+_, _*_, _≤_, _<_}
-use mathlib.Core.Bool.{Bool, true, false, not, _&&_}
+use mathlib.Core.Bool.{Bool, true, false, not}
 use mathlib.Core.List.{List, [], _∷_, _++_, map, append-nil, map-append}
 use mathlib.Core.Path.{_≡_, refl, sym, ap, _∙_}
 use native.Mathlib.Nat.{zero-add}
@@ -11,16 +11,15 @@ use lib.Dec.{eqb}
 use lib.ListN.{length, getD, set, length-set, length-append}
 use lib.Seq.{append-snoc}
 use borrow.Author.Tests.{not-true, not-false, le-ltb, lt-ltb, le-leb, lt-leb, ne-eqb}
-use Rattle.model.specs.declared.MayUse.{MayUse}
-use Rattle.model.specs.Words.{_when_else_, _then_, those, joined, numbersFrom, writtenOver}
+use Rattle.model.specs.Words.{those, joined, numbersFrom, writtenOver}
 use Rattle.model.specs.Rights.{has}
 use Rattle.model.specs.Codes.{spelled}
 use Rattle.model.specs.Forms.{cellAt}
-use Rattle.model.specs.Stores.{Design, noDesign, placeOf, designAt, namedNumber}
+use Rattle.model.specs.Stores.{noDesign, placeOf, designAt, namedNumber}
 use Rattle.model.specs.Questions.{mayUseNumber, mayUse, shown, accessWords}
 use Rattle.model.specs.Outcomes.{Handed, peopleIn, designsIn, hasRooms, handedNumber, mayUseCallNumber, mayUseAnswer, MayUseOutcome, accessListNumber, accessListAnswer, AccessListOutcome, cellsIn}
 use Rattle.laws.proofs.Tests.{accepted, by-test}
-use Rattle.laws.proofs.Lists.{those-append, those-length, length-numbers, numbers-last, joined-append, written-snoc, length-joined}
+use Rattle.laws.proofs.Lists.{those-append, those-length, length-numbers, numbers-last, joined-append, written-snoc}
 use Rattle.laws.proofs.Kept.{roster-length}
 use Rattle.handed.specs.Handing.{Accepted}
 use Rattle.questions.specs.Shown.{countedWith, pairedWith, Shows}

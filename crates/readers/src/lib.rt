@@ -1,5 +1,5 @@
-// A roster card, read with its scheme into lent words. Meets the outcome of `read_roster` in `model`'s Outcomes. Inner functions: the public call and
-// the batch program go through them, and none is offered outside.
+// A roster card, read with its scheme into lent words. Meets the outcome of `read_roster` in `model`'s Outcomes. Inner functions: the public calls
+// go through them, and none is offered outside.
 use cards::HEADER;
 use cards::roster::is_roster_card;
 use cards::roster::read_people;

@@ -15,7 +15,7 @@ use Rattle.model.specs.Words.{those, writtenOver}
 use Rattle.model.specs.Stores.{Design, storeWords, storeNumber}
 use Rattle.model.specs.Requests.{Request, batchNumbers, batched, countDone}
 use Rattle.model.specs.Cards.{entrySize, entriesFill, entries, requestOfEntry}
-use Rattle.model.specs.Outcomes.{Handed, peopleIn, designsIn, hasRooms, handedNumber}
+use Rattle.model.specs.Outcomes.{Handed, requestFrom, peopleIn, designsIn, hasRooms, handedNumber}
 use Rattle.laws.proofs.Tests.{and-iff, passed, accepted}
 use Rattle.laws.proofs.Lists.{those-append, those-length, length-written, written-snoc}
 use Rattle.laws.proofs.Stores.{Words, words-of-store, store-words-length}
@@ -28,7 +28,7 @@ use Rattle.cards.proofs.Filling.{whole-fits}
 use Rattle.cards.proofs.Places.{next-whole, request-in}
 use Rattle.handed.specs.Handing.{Accepted}
 use Rattle.handed.proofs.Numbers.{sized}
-use Rattle.requests.specs.Asking.{asked, Answered}
+use Rattle.requests.specs.Asking.{Answered}
 use Rattle.requests.specs.declared.batch.Step.{Step}
 use Rattle.requests.specs.Running.{requestIn, Stepped, AllAnswered}
 
@@ -71,7 +71,7 @@ module _ (rest : List ℕ) (whole : isWhole 4 rest ≡ true) (next : Next) (en :
       }
 
 pub stepped : (h : Handed) (rest : List ℕ) (command source destination size number : ℕ) (exit : List ℕ) → Read rest command source destination size
-    → Answered h (asked command source destination (take (size - 4) (drop 4 rest))) number exit
+    → Answered h (requestFrom command source destination (take (size - 4) (drop 4 rest))) number exit
     → Stepped h rest (record { number = number; size = size }) exit
 stepped h rest command source destination size number exit r a = record {
   size-is = r .size-is;

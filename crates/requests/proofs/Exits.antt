@@ -15,7 +15,7 @@ use Rattle.model.specs.Outcomes.{Handed, peopleIn, designsIn, hasRooms, handedN
 use Rattle.laws.proofs.Tests.{passed}
 use Rattle.laws.proofs.Requests.{numbers-length}
 use Rattle.cards.proofs.Filling.{card-length}
-use Rattle.requests.specs.Running.{AllAnswered, CardAnswered}
+use Rattle.requests.specs.Running.{only, AllAnswered, CardAnswered}
 use Rattle.requests.proofs.Batching.{requestsIn, length-requests}
 
 -- ---- a batch card
@@ -51,9 +51,6 @@ module _ (h : Handed) (card answers : List ℕ) (n : ℕ) (en : n ≡ requestCou
       record { run-is = λ t. record { number = 0; requests = count-is t; done = counted t }; store-is = each .store-is; answers-are = each .answers-are }
 
 -- ---- the call
-
-abbrev pub only : ℕ → BatchRun
-only number = record { number = number; requests = 0; done = 0 }
 
 module _ (h : Handed) (card answers : List ℕ) where
   -- a number that isn't 0 is given alone, and nothing is changed

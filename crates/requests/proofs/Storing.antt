@@ -16,12 +16,13 @@ use Rattle.model.specs.Schemes.{Scheme, commandAt}
 use Rattle.model.specs.Forms.{lose, gain, act, created}
 use Rattle.model.specs.Stores.{Design, placeOf, storeOf, storeWords}
 use Rattle.model.specs.Requests.{Request, newDesign, carriedOut}
+use Rattle.model.specs.Outcomes.{requestFrom}
 use Rattle.laws.proofs.Lists.{written-snoc}
 use Rattle.laws.proofs.Forms.{created-length}
 use Rattle.laws.proofs.Stores.{Words, Lent, store-length, create-written}
 use Rattle.laws.proofs.Requests.{Admitted, Creates, Acts, admits, creates, acts, requested-done}
 use Rattle.laws.proofs.Untouched.{act-words}
-use Rattle.requests.specs.Asking.{asked, Allowed}
+use Rattle.requests.specs.Asking.{Allowed}
 
 -- ---- a cleared run of words
 
@@ -54,7 +55,7 @@ pub created-words : (w : List ℕ) → Words w → 2305 ≤ length w → length 
     → (at k : ℕ) (new : List ℕ) → at ≡ 1 + getD w 0 0 * 36 → k ≡ 36
     → new ≡ c .kind ∷ words .a ∷ words .b ∷ words .c ∷ created c source 32
     → let counted = set w 0 (getD w 0 0 + 1) in
-    take at counted ++ (new ++ drop k (drop at counted)) ≡ storeWords (storeOf w ++ newDesign c (asked 0 source source code) ∷ []) w
+    take at counted ++ (new ++ drop k (drop at counted)) ≡ storeWords (storeOf w ++ newDesign c (requestFrom 0 source source code) ∷ []) w
 created-words w fit room few c source code words ew at k new ea ek en =
     let lent : Lent w = record { fit = fit; few = omega (arith, store-length w); room = room } in
     let size = created-length c source 32 in
@@ -66,7 +67,7 @@ created-words w fit room few c source code words ew at k new ea ek en =
       ew,
       ea,
       ek,
-      create-written w lent (newDesign c (asked 0 source source code)) size,
+      create-written w lent (newDesign c (requestFrom 0 source source code)) size,
       take-all 36 design (omega arith),
       drop-drop 36 place (set w 0 (n + 1)),
     )
@@ -111,7 +112,7 @@ module _ (s : Scheme) (w : List ℕ) (q : Request) (k : Allowed s w q) where
     pub act-place : (c .form ≡ 1 → ⊥) → (place : ℕ) → place ≡ placeOf (q .code) (storeOf w) → place < 64
     act-place e place ep = omega (arith, acting e .present, k .designs)
 
-    pub create-carried : c .form ≡ 1 → storeWords (storeOf w ++ newDesign c (asked 0 (q .source) (q .source) (q .code)) ∷ []) w
+    pub create-carried : c .form ≡ 1 → storeWords (storeOf w ++ newDesign c (requestFrom 0 (q .source) (q .source) (q .code)) ∷ []) w
         ≡ storeWords (carriedOut s (storeOf w) q) w
     unfolding carriedOut
     create-carried e = rw (← ec, eq-eqb (c .form) 1 e)

@@ -15,9 +15,6 @@ use Rattle.model.specs.Stores.{storeOf, storeWords}
 use Rattle.model.specs.Requests.{Request, twoPeople, requestNumber, requested}
 use Rattle.model.specs.Outcomes.{Handed, peopleIn, designsIn}
 
-abbrev pub asked : ℕ → ℕ → ℕ → List ℕ → Request
-asked command source destination code = record { command = command; source = source; destination = destination; code = code }
-
 -- of a request's chain, what is about the two people: "7, 8, 9"
 unfoldable pub whoNumber : Command → List Person → ℕ → ℕ → ℕ
 whoNumber c people source destination =

@@ -13,6 +13,10 @@ use Rattle.model.specs.Outcomes.{Handed, peopleIn, designsIn, numbersIn, batchR
 use Rattle.requests.specs.declared.batch.Step.{Step}
 use Rattle.requests.specs.Asking.{Answered}
 
+-- a refused batch: its number alone
+abbrev pub only : ℕ → BatchRun
+only number = record { number = number; requests = 0; done = 0 }
+
 -- the request whose entry begins the rest
 abbrev pub requestIn : List ℕ → Request
 requestIn rest = requestOfEntry (take (entrySize 4 rest) rest)

@@ -24,7 +24,7 @@ ghost use Rattle.model.specs.Cards.{entriesFill, entries, requestOfEntry, isBat
 ghost use Rattle.model.specs.Outcomes.{RunBatchOutcome};
 ghost use Rattle.cards.specs.Entries.{isWhole};
 ghost use Rattle.handed.specs.Handing.{countedBy, handedBy, Accepted};
-ghost use Rattle.requests.specs.Running.{Stepped, AllAnswered, CardAnswered};
+ghost use Rattle.requests.specs.Running.{only, Stepped, AllAnswered, CardAnswered};
 
 // The answer to one request of a batch, and the size of its entry.
 pub struct Step {
@@ -126,6 +126,17 @@ fn answer_card(
     }
 }
 
+// Nothing was done, and why.
+fn refused(number: u8) -> BatchRun
+    ensures { λ r. ⌜ r ≡ only number ⌝ }
+{
+    BatchRun {
+        number,
+        requests: 0,
+        done: 0,
+    }
+}
+
 // A batch on whatever is handed over: it is read through before its first request, and goes on after a refused one.
 pub fn run_batch(
     l: Loaded,
@@ -141,34 +152,18 @@ pub fn run_batch(
     ensures { λ r. ⌜ RunBatchOutcome (handedBy (countedBy l types kinds rights) people (now (roster .entry)) (now (store .entry))) (now (card .entry)) (now (answers .entry)) r (now (store .exit)) (now (answers .exit)) ⌝ }
 {
     if !has_rooms(roster, store) {
-        return BatchRun {
-            number: 20,
-            requests: 0,
-            done: 0,
-        };
+        return refused(20);
     }
     if answers.len() < MOST_REQUESTS {
-        return BatchRun {
-            number: 20,
-            requests: 0,
-            done: 0,
-        };
+        return refused(20);
     }
     if !is_batch_card(card) {
-        return BatchRun {
-            number: 1,
-            requests: 0,
-            done: 0,
-        };
+        return refused(1);
     }
     let scheme = counted(l, types, kinds, rights);
     let number = handed_number(scheme, people, roster, store);
     if number != 0 {
-        return BatchRun {
-            number,
-            requests: 0,
-            done: 0,
-        };
+        return refused(number);
     }
     answer_card(scheme, people, roster, store, card, answers)
 }

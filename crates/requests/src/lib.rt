@@ -1,5 +1,5 @@
 // A request, and a batch of them: the number is decided before any word is written (`numbers`), and on 0 the request is carried out (`stored`). Meets
-// the definitions of `model`'s Requests and Outcomes. Inner functions: the public calls and the programs go through them, and none is offered outside.
+// the definitions of `model`'s Requests and Outcomes. Inner functions: the public calls go through them, and none is offered outside.
 pub mod batch;
 pub mod numbers;
 pub mod stored;
@@ -10,9 +10,9 @@ use handed::has_rooms;
 use numbers::request_number;
 use schemes::Loaded;
 use stored::carry_out;
-ghost use Rattle.model.specs.Outcomes.{RequestOutcome};
+ghost use Rattle.model.specs.Outcomes.{requestFrom, RequestOutcome};
 ghost use Rattle.handed.specs.Handing.{countedBy, handedBy, Accepted};
-ghost use Rattle.requests.specs.Asking.{asked, Answered};
+ghost use Rattle.requests.specs.Asking.{Answered};
 
 // A request on what is accepted: its number, and with 0 it is carried out. A refused request changes nothing.
 pub fn answered(
@@ -26,7 +26,7 @@ pub fn answered(
     code: &[u8],
 ) -> u8
     requires { ⌜ Accepted (handedBy l people (now roster) (now store)) ⌝ }
-    ensures { λ r. ⌜ Answered (handedBy l people (now (roster .entry)) (now (store .entry))) (asked command source destination (now (code .entry))) r (now (store .exit)) ⌝ }
+    ensures { λ r. ⌜ Answered (handedBy l people (now (roster .entry)) (now (store .entry))) (requestFrom command source destination (now (code .entry))) r (now (store .exit)) ⌝ }
 {
     let answer = request_number(l, people, roster, store, command, source, destination, code);
     if answer != 0 {
@@ -50,7 +50,7 @@ pub fn request(
     destination: usize,
     code: &[u8],
 ) -> u8
-    ensures { λ r. ⌜ RequestOutcome (handedBy (countedBy l types kinds rights) people (now (roster .entry)) (now (store .entry))) (asked command source destination (now (code .entry))) r (now (store .exit)) ⌝ }
+    ensures { λ r. ⌜ RequestOutcome (handedBy (countedBy l types kinds rights) people (now (roster .entry)) (now (store .entry))) (requestFrom command source destination (now (code .entry))) r (now (store .exit)) ⌝ }
 {
     if !has_rooms(roster, store) {
         return 20;

@@ -21,9 +21,10 @@ ghost use Rattle.model.specs.Codes.{spelled};
 ghost use Rattle.model.specs.Rosters.{rosterOf};
 ghost use Rattle.model.specs.Stores.{storeOf};
 ghost use Rattle.model.specs.Requests.{twoPeople, createNumber, otherNumber, requestNumber};
+ghost use Rattle.model.specs.Outcomes.{requestFrom};
 ghost use Rattle.schemes.specs.Loads.{schemeIn};
 ghost use Rattle.handed.specs.Handing.{handedBy, Accepted};
-ghost use Rattle.requests.specs.Asking.{asked, whoNumber};
+ghost use Rattle.requests.specs.Asking.{whoNumber};
 
 // Only a grant takes two people.
 fn two_people(c: Command, source: usize, destination: usize) -> bool
@@ -104,7 +105,7 @@ pub fn request_number(
     code: &[u8],
 ) -> u8
     requires { ⌜ Accepted (handedBy l people (now roster) (now store)) ⌝ }
-    ensures { λ r. ⌜ r ≡ requestNumber (schemeIn l) (rosterOf people (now (roster .entry))) (storeOf (now (store .entry))) (asked command source destination (now (code .entry))) ⌝ }
+    ensures { λ r. ⌜ r ≡ requestNumber (schemeIn l) (rosterOf people (now (roster .entry))) (storeOf (now (store .entry))) (requestFrom command source destination (now (code .entry))) ⌝ }
 {
     if l.count <= command {
         return 6;

@@ -19,8 +19,9 @@ ghost use Rattle.model.specs.Sizes.{mostPeople, storeRoom};
 ghost use Rattle.model.specs.Forms.{lose, gain, act, created};
 ghost use Rattle.model.specs.Stores.{storeOf, storeWords};
 ghost use Rattle.model.specs.Requests.{newDesign, carriedOut};
+ghost use Rattle.model.specs.Outcomes.{requestFrom};
 ghost use Rattle.schemes.specs.Loads.{schemeIn};
-ghost use Rattle.requests.specs.Asking.{asked, Allowed};
+ghost use Rattle.requests.specs.Asking.{Allowed};
 
 // Every word becomes 0.
 fn clear(words: &mut [u32])
@@ -49,7 +50,7 @@ fn write_design(words: &mut [u32], c: Command, code: Code, source: usize)
 // A create: one design more, in the place behind the last.
 fn create(c: Command, store: &mut [u32], source: usize, code: &[u8])
     requires { ⌜ (storeRoom ≤ length (now store)) × (length (storeOf (now store)) < 64) × (source < 32) ⌝ }
-    ensures { λ _. ⌜ now (store .exit) ≡ storeWords (storeOf (now (store .entry)) ++ newDesign c (asked 0 source source (now (code .entry))) ∷ []) (now (store .entry)) ⌝ }
+    ensures { λ _. ⌜ now (store .exit) ≡ storeWords (storeOf (now (store .entry)) ++ newDesign c (requestFrom 0 source source (now (code .entry))) ∷ []) (now (store .entry)) ⌝ }
 {
     let count = store[0];
     store[0] = count + 1;
@@ -95,8 +96,8 @@ pub fn carry_out(
     destination: usize,
     code: &[u8],
 )
-    requires { ⌜ Allowed (schemeIn l) (now store) (asked command source destination (now code)) ⌝ }
-    ensures { λ _. ⌜ now (store .exit) ≡ storeWords (carriedOut (schemeIn l) (storeOf (now (store .entry))) (asked command source destination (now (code .entry)))) (now (store .entry)) ⌝ }
+    requires { ⌜ Allowed (schemeIn l) (now store) (requestFrom command source destination (now code)) ⌝ }
+    ensures { λ _. ⌜ now (store .exit) ≡ storeWords (carriedOut (schemeIn l) (storeOf (now (store .entry))) (requestFrom command source destination (now (code .entry)))) (now (store .entry)) ⌝ }
 {
     let c = command_of(l, command);
     if c.form == CREATE {

@@ -8,7 +8,6 @@ use lib.Dec.{eqb}
 use lib.ListN.{length, take}
 use borrow.Author.Tests.{lt-leb, le-leb, ne-eqb}
 use Rattle.model.specs.declared.Command.{Command}
-use Rattle.model.specs.declared.SchemeRead.{SchemeRead}
 use Rattle.model.specs.Words.{writtenOver}
 use Rattle.model.specs.Schemes.{Scheme}
 use Rattle.model.specs.Cards.{schemeOf, schemeCardNumber}

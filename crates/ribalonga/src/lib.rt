@@ -1,6 +1,6 @@
 // The public calls, and nothing else is public. Each takes every input, ends, and refuses bad input by its number; none has a
-// `requires`. Its contract is its named outcome in `model/specs/Outcomes`, an equation for the answer and for every lent word.
-// Each loads the lent list of commands and goes on by value.
+// `requires`. Its contract is its named outcome in `model/specs/Outcomes` or `Lines`, an equation for the answer and for every lent word.
+// A call that takes the lent list of commands loads it and goes on by value.
 use lent::Filled;
 use lent::load;
 use lent::store_all;

@@ -1,22 +1,19 @@
 -- Whether designs fit a scheme and a roster: of the cells past the roster it is enough to ask whether they are empty.
 -- Assumes nothing.
-use Prim.Native.Nat.{ℕ, zero, suc, _+_, _-_, _*_, _^_, _≤_, _<_}
-use mathlib.Core.Path.{_≡_, refl, sym, ap, _∙_}
+use Prim.Native.Nat.{ℕ, _+_, _-_, _*_, _≤_, _<_}
+use mathlib.Core.Path.{_≡_, sym, ap, _∙_}
 use mathlib.Core.Bool.{Bool, true, false, not, _&&_, and-assoc, and-true, and-false}
-use mathlib.Core.List.{List, [], _∷_, map}
-use native.Mathlib.Nat.{add-sub-of-le}
+use mathlib.Core.List.{List, [], map}
 use native.Mathlib.Omega.{arith}
 use lib.Dec.{eqb, ltb}
 use lib.ListN.{length, getD, take, drop, length-map}
-use lib.Seq.{getD-drop}
 use lib.Pow.{pow-pos}
-use borrow.Author.Tests.{ltb-true, eqb-true, lt-ltb, le-ltb, not-true, not-false}
+use borrow.Author.Tests.{eqb-true, lt-ltb, le-ltb, not-true, not-false}
 use Rattle.model.specs.Words.{all, groups}
 use Rattle.model.specs.Rights.{fitsRights}
-use Rattle.model.specs.Forms.{cellAt}
 use Rattle.model.specs.Stores.{Design, noDesign, fitsDesign, designOf}
-use Rattle.laws.proofs.Tests.{by-test, and-iff}
-use Rattle.laws.proofs.Bits.{lt-fits, fits-true}
+use Rattle.laws.proofs.Tests.{by-test}
+use Rattle.laws.proofs.Bits.{lt-fits}
 use Rattle.laws.proofs.Lists.{all-at, at-all, all-cut, map-at, length-groups, groups-at}
 use Rattle.codes.proofs.Lists.{all-passed, all-failed, all-ended}
 use Rattle.stores.proofs.Designs.{rest-is}
@@ -61,32 +58,6 @@ module _ (kinds rights people : ℕ) (words : List ℕ) where
     pub rest-decides : all (fitsRights rights) (take people cells) ≡ true
         → all empty (take (length cells - people) (drop people cells)) ≡ fitsDesign kinds rights people (designOf words)
     rest-decides h = rw (fits-is, lt-ltb (getD words 0 0) kinds k, h, rest-is people cells)
-
--- ---- what a design that fits tells
-
--- of every place, as what stands past the end of a list passes too
-everywhere : (test : ℕ → Bool) (xs : List ℕ) → all test xs ≡ true → test 0 ≡ true → (i : ℕ) → test (getD xs i 0) ≡ true
-everywhere test [] h z i = z
-everywhere test (x ∷ xs) h z zero = and-iff (test x) (all test xs) .0 h .0
-everywhere test (x ∷ xs) h z (suc i) = everywhere test xs (and-iff (test x) (all test xs) .0 h .1) z i
-
-pub record Fits (kinds rights people : ℕ) (d : Design) : Type 0 where
-  pub kind : d .kind < kinds
-  pub cell : (p : ℕ) → cellAt (d .cells) p < 2 ^ rights
-  pub past : (p : ℕ) → people ≤ p → cellAt (d .cells) p ≡ 0
-
-pub fits : (kinds rights people : ℕ) (d : Design) → fitsDesign kinds rights people d ≡ true → Fits kinds rights people d
-unfolding fitsDesign
-fits kinds rights people d h =
-    let (first, past) = and-iff (ltb (d .kind) kinds && all (fitsRights rights) (d .cells)) (all empty (drop people (d .cells))) .0 h in
-    let (kind, cells) = and-iff (ltb (d .kind) kinds) (all (fitsRights rights) (d .cells)) .0 first in
-    record {
-      kind = ltb-true (d .kind) kinds kind;
-      cell = λ p. fits-true rights (cellAt (d .cells) p) (everywhere (fitsRights rights) (d .cells) cells (lt-fits rights 0 (pow-pos rights)) p);
-      past = λ p l.
-          let here = everywhere empty (drop people (d .cells)) past refl (p - people) in
-          rw (add-sub-of-le l) at (sym (getD-drop people (d .cells) (p - people) 0) ∙ eqb-true (getD (drop people (d .cells)) (p - people) 0) 0 here);
-    }
 
 -- ---- the designs in a row: what is left of them decides
 

@@ -1,4 +1,4 @@
--- A store's number: what 0 tells, and what the check gives at each of its exits, whose tests are the definition's, in its order.
+-- A store's number: what the check gives at each of its exits, whose tests are the definition's, in its order.
 -- Assumes nothing.
 use Prim.Native.Nat.{ℕ, _-_, _≤_, _<_}
 use mathlib.Core.Path.{_≡_}
@@ -6,41 +6,13 @@ use mathlib.Core.Bool.{Bool, true, false, not, _&&_}
 use mathlib.Core.List.{List, map}
 use native.Mathlib.Omega.{arith}
 use borrow.Author.Tests.{le-leb, lt-leb, not-true, not-false}
-use lib.ListN.{length, getD, take, drop}
+use lib.ListN.{length, take, drop}
 use Rattle.model.specs.Words.{_when_else_, all, groups, allDiffer}
 use Rattle.model.specs.Codes.{spelled}
-use Rattle.model.specs.Stores.{Design, noDesign, isSound, fitsDesign, storeNumber, designOf, storeOf}
-use Rattle.laws.proofs.Tests.{by-test, passed}
-use Rattle.laws.proofs.Lists.{all-at, all-map}
+use Rattle.model.specs.Stores.{Design, isSound, fitsDesign, storeNumber, designOf, storeOf}
+use Rattle.laws.proofs.Lists.{all-map}
 use Rattle.records.specs.Records.{codesIn}
 use Rattle.stores.proofs.Designs.{designs-are, codes-are}
-use Rattle.stores.proofs.Fits.{Fits, fits}
-
--- what a store that is accepted tells
-pub record Accepted (kinds rights people : ℕ) (designs : List Design) : Type 0 where
-  pub few : length designs ≤ 64
-  pub spelt : (i : ℕ) → i < length designs → spelled (getD designs i noDesign .code) ≡ true
-  pub differ : allDiffer (map (λ d. d .code) designs) ≡ true
-  pub fit : (i : ℕ) → i < length designs → Fits kinds rights people (getD designs i noDesign)
-
-module _ (kinds rights people : ℕ) (designs : List Design) where
-  zero-passes : storeNumber kinds rights people designs ≡ 0 → (isSound designs && all (fitsDesign kinds rights people) designs) ≡ true
-  unfolding storeNumber
-  zero-passes =
-      by-test (isSound designs && all (fitsDesign kinds rights people) designs)
-      (λ p h. p)
-      (λ q. rw q (λ h. absurd (omega arith)))
-
-  pub accepted : storeNumber kinds rights people designs ≡ 0 → Accepted kinds rights people designs
-  unfolding isSound
-  accepted h =
-      let p = simp passed at (zero-passes h) in
-      record {
-        few = p .0 .0 .0;
-        spelt = all-at (λ d. spelled (d .code)) designs noDesign (p .0 .0 .1);
-        differ = p .0 .1;
-        fit = λ i l. fits kinds rights people (getD designs i noDesign) (all-at (fitsDesign kinds rights people) designs noDesign (p .1) i l);
-      }
 
 -- ---- the check at each of its exits, in lent words
 

@@ -13,16 +13,10 @@ returns c = sym (short-card _ (c .if1 .taken))
 returns-2 : tie.Need-returns-2
 returns-2 c = sym (long-card _ (c .if2 .taken))
 
-shared-slice-read-if3 : tie.Need-shared-slice-read-if3
-shared-slice-read-if3 c = search needs
-
 returns-3 : tie.Need-returns-3
 returns-3 c =
     let two = c .before .before in
     rw (sized-card _ (two .before .if1 .left) (two .if2 .left), ne-eqb _ _ (c .if3 .taken))
-
-number-at-requires : tie.Need-number-at-requires
-number-at-requires c κs = search needs
 
 returns-4 : tie.Need-returns-4
 returns-4 c =
@@ -33,4 +27,4 @@ returns-4 c =
 pub is-card-spec : {M : Type 1} → statement M
 is-card-spec =
     tie.close
-    (tie.spec returns returns-2 shared-slice-read-if3 returns-3 number-at-requires returns-4)
+    (tie.spec returns returns-2 (λ c. search needs) returns-3 (λ c κs. search needs) returns-4)

@@ -12,14 +12,8 @@ use Rattle.handed.proofs.handed_number.Tie as tie
 abbrev handed : tie.Start → Handed
 handed c = handedBy (c .args .l) (c .args .people) (c .args .roster .now) (c .args .store .now)
 
-is-valid-requires : tie.Need-is-valid-requires
-is-valid-requires c κs = search needs
-
 returns : tie.Need-returns
 returns c = sym (scheme-refused _ _ (c .before .is-valid .ensures) (c .if1 .taken))
-
-roster-number-requires : tie.Need-roster-number-requires
-roster-number-requires c κs = search needs
 
 returns-2 : tie.Need-returns-2
 returns-2 c =
@@ -45,9 +39,9 @@ pub handed-number-spec : {M : Type 1} → statement M
 handed-number-spec =
     tie.close
     (tie.spec
-    is-valid-requires
+    (λ c κs. search needs)
     returns
-    roster-number-requires
+    (λ c κs. search needs)
     returns-2
     store-number-requires
     returns-3)

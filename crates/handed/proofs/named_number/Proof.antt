@@ -7,14 +7,8 @@ use Rattle.handed.proofs.Numbers.{misspelled, none-named, one-named}
 use Rattle.handed.proofs.named_number.Statement.{statement}
 use Rattle.handed.proofs.named_number.Tie as tie
 
-spelled-requires : tie.Need-spelled-requires
-spelled-requires c κs = search needs
-
 returns : tie.Need-returns
 returns c = misspelled _ _ _ (c .before .spelled .ensures) (c .if1 .taken)
-
-design-count-requires : tie.Need-design-count-requires
-design-count-requires c κs = search needs
 
 place-named-requires : tie.Need-place-named-requires
 place-named-requires c κs =
@@ -36,9 +30,9 @@ pub named-number-spec : {M : Type 1} → statement M
 named-number-spec =
     tie.close
     (tie.spec
-    spelled-requires
+    (λ c κs. search needs)
     returns
-    design-count-requires
+    (λ c κs. search needs)
     place-named-requires
     returns-2
     returns-3)

@@ -9,12 +9,6 @@ use Rattle.handed.proofs.Numbers.{same-place}
 use Rattle.handed.proofs.place_named.Statement.{statement}
 use Rattle.handed.proofs.place_named.Tie as tie
 
-pack-requires : tie.Need-pack-requires
-pack-requires c κs = search needs
-
-place-of-requires : tie.Need-place-of-requires
-place-of-requires c κs = search needs
-
 returns : tie.Need-returns
 returns c =
     let start = c .before .before .before .before in
@@ -23,4 +17,4 @@ returns c =
     ∙ same-place (storeOf (start .args .store .now)) (start .args .code .now) (start .pre .2)
 
 pub place-named-spec : {M : Type 1} → statement M
-place-named-spec = tie.close (tie.spec pack-requires place-of-requires returns)
+place-named-spec = tie.close (tie.spec (λ c κs. search needs) (λ c κs. search needs) returns)

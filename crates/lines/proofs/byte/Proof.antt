@@ -8,12 +8,6 @@ use lib.Seq.{take-suc-set}
 use Rattle.lines.proofs.byte.Statement.{statement}
 use Rattle.lines.proofs.byte.Tie as tie
 
-element-write-next : tie.Need-element-write-next
-element-write-next c = search needs
-
-add-next : tie.Need-add-next
-add-next c = search needs
-
 returns : tie.Need-returns
 returns c =
     let l = c .args .l in
@@ -24,4 +18,4 @@ returns c =
     }
 
 pub byte-spec : {M : Type 1} → statement M
-byte-spec = tie.close (tie.spec element-write-next add-next returns)
+byte-spec = tie.close (tie.spec (λ c. search needs) (λ c. search needs) returns)

@@ -5,59 +5,17 @@ use borrow.Author.Needs.{needs}
 use Rattle.lines.proofs.decimal.Statement.{statement}
 use Rattle.lines.proofs.decimal.Tie as tie
 
-cast-ones : tie.Need-cast-ones
-cast-ones c = search needs
-
-digit-requires : tie.Need-digit-requires
-digit-requires c κs = search needs
-
 returns : tie.Need-returns
 returns c = rw (decimal-1 _ (c .before .if1 .taken)) (c .digit .ensures)
 
-cast-tens : tie.Need-cast-tens
-cast-tens c = search needs
-
-digit-requires-2 : tie.Need-digit-requires-2
-digit-requires-2 c κs = search needs
-
-digit-requires-3 : tie.Need-digit-requires-3
-digit-requires-3 c κs = search needs
-
 returns-2 : tie.Need-returns-2
 returns-2 c = rw (decimal-2 _ (c .before .before .before .if1 .left) (c .before .before .if2 .taken)) (longer-longer (c .before .digit2 .ensures) (c .digit3 .ensures))
-
-cast-hundreds : tie.Need-cast-hundreds
-cast-hundreds c = search needs
-
-digit-requires-4 : tie.Need-digit-requires-4
-digit-requires-4 c κs = search needs
-
-digit-requires-5 : tie.Need-digit-requires-5
-digit-requires-5 c κs = search needs
-
-digit-requires-6 : tie.Need-digit-requires-6
-digit-requires-6 c κs = search needs
 
 returns-3 : tie.Need-returns-3
 returns-3 c =
     let if3 = c .before .before .before in
     rw (decimal-3 _ (if3 .before .if2 .left) (if3 .if3 .taken))
     (longer-longer (longer-longer (c .before .before .digit4 .ensures) (c .before .digit5 .ensures)) (c .digit6 .ensures))
-
-cast-thousands : tie.Need-cast-thousands
-cast-thousands c = search needs
-
-digit-requires-7 : tie.Need-digit-requires-7
-digit-requires-7 c κs = search needs
-
-digit-requires-8 : tie.Need-digit-requires-8
-digit-requires-8 c κs = search needs
-
-digit-requires-9 : tie.Need-digit-requires-9
-digit-requires-9 c κs = search needs
-
-digit-requires-10 : tie.Need-digit-requires-10
-digit-requires-10 c κs = search needs
 
 returns-4 : tie.Need-returns-4
 returns-4 c =
@@ -71,21 +29,21 @@ pub decimal-spec : {M : Type 1} → statement M
 decimal-spec =
     tie.close
     (tie.spec
-    cast-ones
-    digit-requires
+    (λ c. search needs)
+    (λ c κs. search needs)
     returns
-    cast-tens
-    digit-requires-2
-    digit-requires-3
+    (λ c. search needs)
+    (λ c κs. search needs)
+    (λ c κs. search needs)
     returns-2
-    cast-hundreds
-    digit-requires-4
-    digit-requires-5
-    digit-requires-6
+    (λ c. search needs)
+    (λ c κs. search needs)
+    (λ c κs. search needs)
+    (λ c κs. search needs)
     returns-3
-    cast-thousands
-    digit-requires-7
-    digit-requires-8
-    digit-requires-9
-    digit-requires-10
+    (λ c. search needs)
+    (λ c κs. search needs)
+    (λ c κs. search needs)
+    (λ c κs. search needs)
+    (λ c κs. search needs)
     returns-4)

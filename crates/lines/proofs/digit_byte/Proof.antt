@@ -5,19 +5,13 @@ use Rattle.model.specs.Lines.{digitByte}
 use Rattle.lines.proofs.digit_byte.Statement.{statement}
 use Rattle.lines.proofs.digit_byte.Tie as tie
 
-add-result : tie.Need-add-result
-add-result c = search needs
-
 returns : tie.Need-returns
 unfolding digitByte
 returns c = rw (lt-ltb (c .before .args .d) 10 (c .if1 .taken))
-
-add-result-2 : tie.Need-add-result-2
-add-result-2 c = search needs
 
 returns-2 : tie.Need-returns-2
 unfolding digitByte
 returns-2 c = rw (le-ltb (c .before .args .d) 10 (c .if1 .left))
 
 pub digit-byte-spec : {M : Type 1} → statement M
-digit-byte-spec = tie.close (tie.spec add-result add-result-2 returns returns-2)
+digit-byte-spec = tie.close (tie.spec (λ c. search needs) (λ c. search needs) returns returns-2)

@@ -6,21 +6,6 @@ use borrow.Author.Needs.{needs}
 use Rattle.lines.proofs.line_c.Statement.{statement}
 use Rattle.lines.proofs.line_c.Tie as tie
 
-start-requires : tie.Need-start-requires
-start-requires c κs = search needs
-
-with-number-requires : tie.Need-with-number-requires
-with-number-requires c κs = search needs
-
-with-number-requires-2 : tie.Need-with-number-requires-2
-with-number-requires-2 c κs = search needs
-
-with-number-requires-3 : tie.Need-with-number-requires-3
-with-number-requires-3 c κs = search needs
-
-byte-requires : tie.Need-byte-requires
-byte-requires c κs = search needs
-
 returns : tie.Need-returns
 returns c =
     let a = c .before .before .before .before .before .args in
@@ -33,9 +18,9 @@ pub line-c-spec : {M : Type 1} → statement M
 line-c-spec =
     tie.close
     (tie.spec
-    start-requires
-    with-number-requires
-    with-number-requires-2
-    with-number-requires-3
-    byte-requires
+    (λ c κs. search needs)
+    (λ c κs. search needs)
+    (λ c κs. search needs)
+    (λ c κs. search needs)
+    (λ c κs. search needs)
     returns)

@@ -6,15 +6,6 @@ use borrow.Author.Needs.{needs}
 use Rattle.lines.proofs.line_x.Statement.{statement}
 use Rattle.lines.proofs.line_x.Tie as tie
 
-start-requires : tie.Need-start-requires
-start-requires c κs = search needs
-
-with-number-requires : tie.Need-with-number-requires
-with-number-requires c κs = search needs
-
-byte-requires : tie.Need-byte-requires
-byte-requires c κs = search needs
-
 returns : tie.Need-returns
 unfolding lineX
 returns c =
@@ -23,4 +14,4 @@ returns c =
     line-said "X" (decimal (a .number) ∷ []) one (c .byte .ensures)
 
 pub line-x-spec : {M : Type 1} → statement M
-line-x-spec = tie.close (tie.spec start-requires with-number-requires byte-requires returns)
+line-x-spec = tie.close (tie.spec (λ c κs. search needs) (λ c κs. search needs) (λ c κs. search needs) returns)

@@ -6,14 +6,8 @@ use borrow.Author.Needs.{needs}
 use Rattle.lines.proofs.with_code.Statement.{statement}
 use Rattle.lines.proofs.with_code.Tie as tie
 
-byte-requires : tie.Need-byte-requires
-byte-requires c κs = search needs
-
-code-requires : tie.Need-code-requires
-code-requires c κs = search needs
-
 returns : tie.Need-returns
 returns c = (longer-longer (c .before .byte .ensures) (c .code .ensures), omega (arith, length-unpacked (c .before .before .args .w)))
 
 pub with-code-spec : {M : Type 1} → statement M
-with-code-spec = tie.close (tie.spec byte-requires code-requires returns)
+with-code-spec = tie.close (tie.spec (λ c κs. search needs) (λ c κs. search needs) returns)

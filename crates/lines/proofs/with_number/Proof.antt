@@ -6,14 +6,8 @@ use borrow.Author.Needs.{needs}
 use Rattle.lines.proofs.with_number.Statement.{statement}
 use Rattle.lines.proofs.with_number.Tie as tie
 
-byte-requires : tie.Need-byte-requires
-byte-requires c κs = search needs
-
-decimal-requires : tie.Need-decimal-requires
-decimal-requires c κs = search needs
-
 returns : tie.Need-returns
 returns c = (longer-longer (c .before .byte .ensures) (c .decimal .ensures), omega (arith, length-decimal (c .before .before .args .n)))
 
 pub with-number-spec : {M : Type 1} → statement M
-with-number-spec = tie.close (tie.spec byte-requires decimal-requires returns)
+with-number-spec = tie.close (tie.spec (λ c κs. search needs) (λ c κs. search needs) returns)

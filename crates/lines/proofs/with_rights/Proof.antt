@@ -6,14 +6,8 @@ use borrow.Author.Needs.{needs}
 use Rattle.lines.proofs.with_rights.Statement.{statement}
 use Rattle.lines.proofs.with_rights.Tie as tie
 
-byte-requires : tie.Need-byte-requires
-byte-requires c κs = search needs
-
-hexadecimal-requires : tie.Need-hexadecimal-requires
-hexadecimal-requires c κs = search needs
-
 returns : tie.Need-returns
 returns c = (longer-longer (c .before .byte .ensures) (c .hexadecimal .ensures), omega (arith, length-hexadecimal (c .before .before .args .rights)))
 
 pub with-rights-spec : {M : Type 1} → statement M
-with-rights-spec = tie.close (tie.spec byte-requires hexadecimal-requires returns)
+with-rights-spec = tie.close (tie.spec (λ c κs. search needs) (λ c κs. search needs) returns)

@@ -29,12 +29,6 @@ told c =
     let s = start (c .before) in
     listable (handed s) (s .args .code .now) (s .args .list .now) (sym (number-is (c .before)) ∙ c .if1 .left)
 
-counted-requires : tie.Need-counted-requires
-counted-requires c κs = search needs
-
-access-list-number-requires : tie.Need-access-list-number-requires
-access-list-number-requires c κs = search needs
-
 returns : tie.Need-returns
 returns c =
     let s = start (c .before) in
@@ -54,9 +48,6 @@ show-requires c κs =
       list-room = t .room;
     }
 
-same-length : tie.Need-same-length
-same-length c = search needs
-
 returns-2 : tie.Need-returns-2
 returns-2 c =
     let after = c .before .before in
@@ -70,10 +61,10 @@ pub access-list-spec : {M : Type 1} → statement M
 access-list-spec =
     tie.close
     (tie.spec
-    counted-requires
-    access-list-number-requires
+    (λ c κs. search needs)
+    (λ c κs. search needs)
     returns
     place-named-requires
     show-requires
-    same-length
+    (λ c. search needs)
     returns-2)

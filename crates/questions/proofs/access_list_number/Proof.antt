@@ -18,9 +18,6 @@ start c = c .before .before .before .before
 room-answer : (c : tie.After-has-rooms) → c .has-rooms .result ≡ hasRooms (handed (start c))
 room-answer c = c .has-rooms .ensures (start c .args .l) (start c .args .people)
 
-has-rooms-requires : tie.Need-has-rooms-requires
-has-rooms-requires c κs = search needs
-
 returns : tie.Need-returns
 returns c =
     let s = start (c .before) in
@@ -69,7 +66,7 @@ pub access-list-number-spec : {M : Type 1} → statement M
 access-list-number-spec =
     tie.close
     (tie.spec
-    has-rooms-requires
+    (λ c κs. search needs)
     returns
     returns-2
     handed-number-requires

@@ -29,12 +29,6 @@ told c =
     let s = start (c .before) in
     answerable (handed s) (s .args .person) (s .args .right) (s .args .code .now) (sym (number-is (c .before)) ∙ c .if1 .left)
 
-counted-requires : tie.Need-counted-requires
-counted-requires c κs = search needs
-
-may-use-number-requires : tie.Need-may-use-number-requires
-may-use-number-requires c κs = search needs
-
 returns : tie.Need-returns
 returns c =
     let s = start (c .before) in
@@ -73,8 +67,8 @@ pub may-use-spec : {M : Type 1} → statement M
 may-use-spec =
     tie.close
     (tie.spec
-    counted-requires
-    may-use-number-requires
+    (λ c κs. search needs)
+    (λ c κs. search needs)
     returns
     place-named-requires
     cell-at-requires

@@ -1,14 +1,10 @@
 -- `questions::may_use_number`: the tests are the definition's, in its order. Assumes nothing.
 use mathlib.Core.Path.{_≡_, sym, _∙_}
-use Prim.Native.Nat.{_≤_}
 use borrow.Author.Needs.{needs}
 use borrow.Author.Tests.{not-false}
-use lib.ListN.{length}
-use Rattle.model.specs.Sizes.{rosterRoom, storeRoom}
-use Rattle.model.specs.Stores.{storeOf}
 use Rattle.model.specs.Outcomes.{Handed, hasRooms}
-use Rattle.handed.specs.Handing.{handedBy, Accepted}
-use Rattle.handed.proofs.Numbers.{rooms, Sized, sized}
+use Rattle.handed.specs.Handing.{handedBy}
+use Rattle.handed.proofs.Numbers.{rooms, sized}
 use Rattle.questions.proofs.Asked.{no-room, not-handed, was-accepted, no-right, no-person, named}
 use Rattle.questions.proofs.may_use_number.Statement.{statement}
 use Rattle.questions.proofs.may_use_number.Tie as tie
@@ -22,9 +18,6 @@ start c = c .before .before .before .before
 
 room-answer : (c : tie.After-has-rooms) → c .has-rooms .result ≡ hasRooms (handed (start c))
 room-answer c = c .has-rooms .ensures (start c .args .l) (start c .args .people)
-
-has-rooms-requires : tie.Need-has-rooms-requires
-has-rooms-requires c κs = search needs
 
 returns : tie.Need-returns
 returns c =
@@ -82,7 +75,7 @@ pub may-use-number-spec : {M : Type 1} → statement M
 may-use-number-spec =
     tie.close
     (tie.spec
-    has-rooms-requires
+    (λ c κs. search needs)
     returns
     handed-number-requires
     returns-2

@@ -1,8 +1,7 @@
 -- `questions::show`: the first p people are shown, and their pairs written over the list that was lent. Assumes nothing.
-use Prim.Native.Nat.{ℕ, _≤_, _<_, _-_}
+use Prim.Native.Nat.{ℕ, _≤_, _-_}
 use mathlib.Core.Path.{_≡_, refl, subst, _∙_}
 use native.Mathlib.Omega.{arith}
-use borrow.Author.Needs.{needs}
 use lib.ListN.{length, getD}
 use Rattle.model.specs.Stores.{noDesign, storeOf}
 use Rattle.questions.specs.Shown.{CanShow, Shows}

@@ -10,20 +10,11 @@ use borrow.Author.Needs.{needs}
 use Rattle.readers.proofs.people_number.Statement.{statement}
 use Rattle.readers.proofs.people_number.Tie as tie
 
-slice-aggregate-read-people : tie.Need-slice-aggregate-read-people
-slice-aggregate-read-people c = search needs
-
 read-people-requires : tie.Need-read-people-requires
 read-people-requires c κs =
     let start = c .before .before in
     let card = start .args .card .now in
     (start .pre .0, count-between card (omega (arith, people-count card)) (omega (arith, people-count card)), omega arith)
-
-slice-aggregate-roster-number : tie.Need-slice-aggregate-roster-number
-slice-aggregate-roster-number c = search needs
-
-roster-number-requires : tie.Need-roster-number-requires
-roster-number-requires c κs = search needs
 
 returns : tie.Need-returns
 returns c =
@@ -37,8 +28,8 @@ pub people-number-spec : {M : Type 1} → statement M
 people-number-spec =
     tie.close
     (tie.spec
-    slice-aggregate-read-people
+    (λ c. search needs)
     read-people-requires
-    slice-aggregate-roster-number
-    roster-number-requires
+    (λ c. search needs)
+    (λ c κs. search needs)
     returns)

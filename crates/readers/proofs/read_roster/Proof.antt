@@ -3,19 +3,10 @@ use borrow.Author.Needs.{needs}
 use Rattle.readers.proofs.read_roster.Statement.{statement}
 use Rattle.readers.proofs.read_roster.Tie as tie
 
-counted-requires : tie.Need-counted-requires
-counted-requires c κs = search needs
-
-roster-on-requires : tie.Need-roster-on-requires
-roster-on-requires c κs = search needs
-
-same-length : tie.Need-same-length
-same-length c = search needs
-
 returns : tie.Need-returns
 returns c =
     let call = c .before .before in
     rw (call .before .before .counted .ensures) at (call .roster-on .ensures)
 
 pub read-roster-spec : {M : Type 1} → statement M
-read-roster-spec = tie.close (tie.spec counted-requires roster-on-requires same-length returns)
+read-roster-spec = tie.close (tie.spec (λ c κs. search needs) (λ c κs. search needs) (λ c. search needs) returns)

@@ -23,30 +23,15 @@ is-card c = sym (c .before .is-roster-card .ensures) ∙ not-false _ (c .if2 .le
 valid : (c : tie.Else3) → schemeIsValid (schemeIn (c .before .before .before .before .before .before .before .args .l)) ≡ true
 valid c = sym (c .before .is-valid .ensures) ∙ not-false _ (c .if3 .left)
 
-refused-requires : tie.Need-refused-requires
-refused-requires c κs = search needs
-
 returns : tie.Need-returns
 returns c =
     let a = c .before .before .before .before .args in
     refused-with (schemeIn (a .l)) (a .card .now) (a .roster .now) 20 (λ e. omega arith) (no-room (schemeIn (a .l)) (a .card .now) (a .roster .now) (c .before .if1 .taken)) _ (c .refused .ensures)
 
-is-roster-card-requires : tie.Need-is-roster-card-requires
-is-roster-card-requires c κs = search needs
-
-refused-requires-2 : tie.Need-refused-requires-2
-refused-requires-2 c κs = search needs
-
 returns-2 : tie.Need-returns-2
 returns-2 c =
     let a = c .before .before .before .before .before .before .args in
     refused-with (schemeIn (a .l)) (a .card .now) (a .roster .now) 1 (λ e. omega arith) (no-card (schemeIn (a .l)) (a .card .now) (a .roster .now) (room (c .before .before .before)) (sym (c .before .before .is-roster-card .ensures) ∙ not-true _ (c .before .if2 .taken))) _ (c .refused2 .ensures)
-
-is-valid-requires : tie.Need-is-valid-requires
-is-valid-requires c κs = search needs
-
-refused-requires-3 : tie.Need-refused-requires-3
-refused-requires-3 c κs = search needs
 
 returns-3 : tie.Need-returns-3
 returns-3 c =
@@ -59,16 +44,10 @@ shared-slice-read-people c = count-inside _ (is-card (c .before .before .before)
 cast-people : tie.Need-cast-people
 cast-people c = omega (arith, c .shared-slice-known2 .given 3)
 
-refused-requires-4 : tie.Need-refused-requires-4
-refused-requires-4 c κs = search needs
-
 returns-4 : tie.Need-returns-4
 returns-4 c =
     let a = c .before .before .before .before .before .before .before .before .before .before .args in
     refused-with (schemeIn (a .l)) (a .card .now) (a .roster .now) 3 (λ e. omega arith) (too-few (schemeIn (a .l)) (a .card .now) (a .roster .now) (room (c .before .before .before .before .before .before .before)) (is-card (c .before .before .before .before .before)) (valid (c .before .before .before)) (c .before .if4 .taken)) _ (c .refused4 .ensures)
-
-refused-requires-5 : tie.Need-refused-requires-5
-refused-requires-5 c κs = search needs
 
 returns-5 : tie.Need-returns-5
 returns-5 c =
@@ -79,9 +58,6 @@ people-number-requires : tie.Need-people-number-requires
 people-number-requires c κs =
     let else3 = c .before .before .before in
     (is-card (else3 .before .before), sym (people-count _), omega arith, omega arith)
-
-refused-requires-6 : tie.Need-refused-requires-6
-refused-requires-6 c κs = search needs
 
 returns-6 : tie.Need-returns-6
 returns-6 c =
@@ -95,9 +71,6 @@ read-people-requires c κs =
     let card = else3 .before .before .before .before .before .before .before .args .card .now in
     (is-card (else3 .before .before), count-between card (omega arith) (omega arith), room (else3 .before .before .before .before))
 
-same-length : tie.Need-same-length
-same-length c = search needs
-
 returns-7 : tie.Need-returns-7
 returns-7 c =
     let call = c .before .before in
@@ -110,23 +83,23 @@ pub roster-on-spec : {M : Type 1} → statement M
 roster-on-spec =
     tie.close
     (tie.spec
-    refused-requires
+    (λ c κs. search needs)
     returns
-    is-roster-card-requires
-    refused-requires-2
+    (λ c κs. search needs)
+    (λ c κs. search needs)
     returns-2
-    is-valid-requires
-    refused-requires-3
+    (λ c κs. search needs)
+    (λ c κs. search needs)
     returns-3
     shared-slice-read-people
     cast-people
-    refused-requires-4
+    (λ c κs. search needs)
     returns-4
-    refused-requires-5
+    (λ c κs. search needs)
     returns-5
     people-number-requires
-    refused-requires-6
+    (λ c κs. search needs)
     returns-6
     read-people-requires
-    same-length
+    (λ c. search needs)
     returns-7)

@@ -5,12 +5,6 @@ use Rattle.requests.proofs.Answering.{refused, allowed, done}
 use Rattle.requests.proofs.answered.Statement.{statement}
 use Rattle.requests.proofs.answered.Tie as tie
 
-request-number-requires : tie.Need-request-number-requires
-request-number-requires c κs = search needs
-
-same-length : tie.Need-same-length
-same-length c = search needs
-
 returns : tie.Need-returns
 returns c =
     let words = c .before .before .before .before in
@@ -20,9 +14,6 @@ carry-out-requires : tie.Need-carry-out-requires
 carry-out-requires c κs =
     let words = c .before .before .before .before .before in
     allowed _ _ (words .before .before .pre) (λ i. words .slice-known .given i .fits) _ (c .before .before .request-number .ensures) (c .before .if1 .left)
-
-same-length-2 : tie.Need-same-length-2
-same-length-2 c = search needs
 
 returns-2 : tie.Need-returns-2
 returns-2 c =
@@ -35,9 +26,9 @@ pub answered-spec : {M : Type 1} → statement M
 answered-spec =
     tie.close
     (tie.spec
-    request-number-requires
-    same-length
+    (λ c κs. search needs)
+    (λ c. search needs)
     returns
     carry-out-requires
-    same-length-2
+    (λ c. search needs)
     returns-2)

@@ -5,10 +5,9 @@ use borrow.Author.Needs.{needs}
 use borrow.Author.Tests.{not-false}
 use Rattle.schemes.specs.declared.Loaded.{Loaded}
 use Rattle.model.specs.Requests.{Request}
-use Rattle.model.specs.Outcomes.{Handed}
+use Rattle.model.specs.Outcomes.{Handed, requestFrom}
 use Rattle.handed.specs.Handing.{handedBy}
 use Rattle.handed.proofs.Numbers.{rooms, is-accepted}
-use Rattle.requests.specs.Asking.{asked}
 use Rattle.requests.proofs.Answering.{no-room, not-accepted, answered-is}
 use Rattle.requests.proofs.request.Statement.{statement}
 use Rattle.requests.proofs.request.Tie as tie
@@ -19,28 +18,16 @@ handed c l = handedBy l (c .args .people) (c .args .roster .now) (c .args .store
 
 -- what is asked
 abbrev question : tie.Start → Request
-question c = asked (c .args .command) (c .args .source) (c .args .destination) (c .args .code .now)
-
-has-rooms-requires : tie.Need-has-rooms-requires
-has-rooms-requires c κs = search needs
-
-same-length : tie.Need-same-length
-same-length c = search needs
+question c = requestFrom (c .args .command) (c .args .source) (c .args .destination) (c .args .code .now)
 
 returns : tie.Need-returns
 returns c = no-room _ _ _ (c .before .has-rooms .ensures _ _) (c .if1 .taken)
-
-counted-requires : tie.Need-counted-requires
-counted-requires c κs = search needs
 
 handed-number-requires : tie.Need-handed-number-requires
 handed-number-requires c κs =
     let room = c .before .before .before in
     rooms (handed (room .before .before .before .before .before) (c .before .counted .result))
     (sym (room .has-rooms .ensures _ _) ∙ not-false _ (c .before .before .if1 .left))
-
-same-length-2 : tie.Need-same-length-2
-same-length-2 c = search needs
 
 returns-2 : tie.Need-returns-2
 returns-2 c =
@@ -59,9 +46,6 @@ answered-requires c κs =
     is-accepted (handed (room .before .before .before .before .before) (scheme .counted .result)) _ (room .has-rooms .ensures _ _) (scheme .before .if1 .left) _
     (number .handed-number .ensures) (c .before .if2 .left)
 
-same-length-3 : tie.Need-same-length-3
-same-length-3 c = search needs
-
 returns-3 : tie.Need-returns-3
 returns-3 c =
     let number = c .before .before .before .before .before in
@@ -76,13 +60,13 @@ pub request-spec : {M : Type 1} → statement M
 request-spec =
     tie.close
     (tie.spec
-    has-rooms-requires
-    same-length
+    (λ c κs. search needs)
+    (λ c. search needs)
     returns
-    counted-requires
+    (λ c κs. search needs)
     handed-number-requires
-    same-length-2
+    (λ c. search needs)
     returns-2
     answered-requires
-    same-length-3
+    (λ c. search needs)
     returns-3)

@@ -1,7 +1,7 @@
 -- `ribalonga::read_scheme`: the lent list is filled with what `scheme_filled` answers (`lent`'s Fills). Assumes nothing.
 use Prim.Native.Nat.{ℕ, _≤_}
 use mathlib.Core.List.{List}
-use mathlib.Core.Path.{_≡_, refl}
+use mathlib.Core.Path.{refl}
 use lib.ListN.{length}
 use base.Logic.{id⊢}
 use contract.Running.{tablesOf}

@@ -4,19 +4,10 @@ use Rattle.ribalonga.proofs.Filling.{no-room, refused-card, whole-schem
 use Rattle.ribalonga.proofs.scheme_filled.Statement.{statement}
 use Rattle.ribalonga.proofs.scheme_filled.Tie as tie
 
-unfilled-requires : tie.Need-unfilled-requires
-unfilled-requires c κs = search needs
-
 returns : tie.Need-returns
 returns c =
     let s = c .before .before .before in
     no-room (s .args .card .now) (s .args .room) (c .unfilled .result) (c .unfilled .ensures) (c .before .if1 .taken)
-
-read-scheme-requires : tie.Need-read-scheme-requires
-read-scheme-requires c κs = search needs
-
-unfilled-requires-2 : tie.Need-unfilled-requires-2
-unfilled-requires-2 c κs = search needs
 
 returns-2 : tie.Need-returns-2
 returns-2 c =
@@ -32,9 +23,9 @@ pub scheme-filled-spec : {M : Type 1} → statement M
 scheme-filled-spec =
     tie.close
     (tie.spec
-    unfilled-requires
+    (λ c κs. search needs)
     returns
-    read-scheme-requires
-    unfilled-requires-2
+    (λ c κs. search needs)
+    (λ c κs. search needs)
     returns-2
     returns-3)

@@ -2,16 +2,12 @@
 use mathlib.Core.Path.{ap}
 use borrow.Author.Needs.{needs}
 use Rattle.schemes.specs.declared.Loaded.{Loaded}
-use Rattle.lent.specs.declared.Filled.{Filled}
 use Rattle.ribalonga.proofs.unfilled.Statement.{statement}
 use Rattle.ribalonga.proofs.unfilled.Tie as tie
-
-empty-requires : tie.Need-empty-requires
-empty-requires c κs = search needs
 
 returns : tie.Need-returns
 returns c =
     ap (λ (l : Loaded). record { answer = record { number = c .before .args .number; types = 0; kinds = 0; rights = 0; commands = 0 }; scheme = l }) (c .empty .ensures)
 
 pub unfilled-spec : {M : Type 1} → statement M
-unfilled-spec = tie.close (tie.spec empty-requires returns)
+unfilled-spec = tie.close (tie.spec (λ c κs. search needs) returns)

@@ -7,11 +7,8 @@ use Rattle.rosters.proofs.People.{code-is}
 use Rattle.rosters.proofs.code_at.Statement.{statement}
 use Rattle.rosters.proofs.code_at.Tie as tie
 
-code-of-requires : tie.Need-code-of-requires
-code-of-requires c κs = search needs
-
 returns : tie.Need-returns
 returns c count l = ap unpacked (c .code-of .ensures) ∙ sym (code-is count _ _ l)
 
 pub code-at-spec : {M : Type 1} → statement M
-code-at-spec = tie.close (tie.spec code-of-requires returns)
+code-at-spec = tie.close (tie.spec (λ c κs. search needs) returns)

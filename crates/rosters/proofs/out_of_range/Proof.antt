@@ -12,11 +12,8 @@ returns c = sym (out-empty _ _ _ (c .if1 .taken))
 returns-2 : tie.Need-returns-2
 returns-2 c = sym (out-long _ _ _ (c .if2 .taken))
 
-some-type-out-requires : tie.Need-some-type-out-requires
-some-type-out-requires c κs = search needs
-
 returns-3 : tie.Need-returns-3
 returns-3 c = c .some-type-out .ensures ∙ sym (out-by-types _ _ _ (c .before .before .if1 .left) (c .before .if2 .left))
 
 pub out-of-range-spec : {M : Type 1} → statement M
-out-of-range-spec = tie.close (tie.spec returns returns-2 some-type-out-requires returns-3)
+out-of-range-spec = tie.close (tie.spec returns returns-2 (λ c κs. search needs) returns-3)

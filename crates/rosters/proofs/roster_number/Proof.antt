@@ -7,9 +7,6 @@ use Rattle.rosters.proofs.Numbers.{few, range-refused, spelling-refused
 use Rattle.rosters.proofs.roster_number.Statement.{statement}
 use Rattle.rosters.proofs.roster_number.Tie as tie
 
-out-of-range-requires : tie.Need-out-of-range-requires
-out-of-range-requires c κs = search needs
-
 returns : tie.Need-returns
 returns c = sym (range-refused _ _ _ (cc))
 
@@ -44,7 +41,7 @@ pub roster-number-spec : {M : Type 1} → statement M
 roster-number-spec =
     tie.close
     (tie.spec
-    out-of-range-requires
+    (λ c κs. search needs)
     returns
     all-spelled-requires
     returns-2

@@ -8,15 +8,6 @@ use Rattle.rosters.proofs.People.{type-is}
 use Rattle.rosters.proofs.type_at.Statement.{statement}
 use Rattle.rosters.proofs.type_at.Tie as tie
 
-mul-result : tie.Need-mul-result
-mul-result c = search needs
-
-mul-result-2 : tie.Need-mul-result-2
-mul-result-2 c = search needs
-
-shared-slice-read-result : tie.Need-shared-slice-read-result
-shared-slice-read-result c = search needs
-
 cast-result : tie.Need-cast-result
 cast-result c = omega (arith, c .shared-slice-known .given (c .before .args .p * 4))
 
@@ -24,4 +15,4 @@ returns : tie.Need-returns
 returns c count l = sym (type-is count _ _ l)
 
 pub type-at-spec : {M : Type 1} → statement M
-type-at-spec = tie.close (tie.spec mul-result mul-result-2 shared-slice-read-result cast-result returns)
+type-at-spec = tie.close (tie.spec (λ c. search needs) (λ c. search needs) (λ c. search needs) cast-result returns)

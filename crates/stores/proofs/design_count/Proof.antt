@@ -7,9 +7,6 @@ use Rattle.stores.proofs.Designs.{length-store}
 use Rattle.stores.proofs.design_count.Statement.{statement}
 use Rattle.stores.proofs.design_count.Tie as tie
 
-shared-slice-read-result : tie.Need-shared-slice-read-result
-shared-slice-read-result c = search needs
-
 cast-result : tie.Need-cast-result
 cast-result c = omega (arith, c .shared-slice-known .given 0)
 
@@ -17,4 +14,4 @@ returns : tie.Need-returns
 returns c = sym (length-store _)
 
 pub design-count-spec : {M : Type 1} → statement M
-design-count-spec = tie.close (tie.spec shared-slice-read-result cast-result returns)
+design-count-spec = tie.close (tie.spec (λ c. search needs) cast-result returns)

@@ -58,39 +58,18 @@ roster-number c =
     let card-is = ap (take (end2 .card-end2 .result)) (rest-is rest) ∙ end-second end2 .card in
     given {roster = replicate 128 0} (omega arith) (c .roster-on .ensures) .number ∙ ap₂ rosterCardNumber scheme-is card-is
 
-card-wanted-requires : tie.Need-card-wanted-requires
-card-wanted-requires c κs = search needs
-
 returns : tie.Need-returns
 returns c =
     let wanted = c .before .card-wanted .ensures in
     record { answer-is = wanted ∙ sym (first-wanted _ (λ z. c .if1 .taken (wanted ∙ z))) }
 
-card-end-requires : tie.Need-card-end-requires
-card-end-requires c κs = search needs
-
 slice-aggregate-read-scheme : tie.Need-slice-aggregate-read-scheme
 slice-aggregate-read-scheme c = sym (length-take-le _ _ (c .before .card-end .ensures .inside))
-
-read-scheme-requires : tie.Need-read-scheme-requires
-read-scheme-requires c κs = search needs
 
 returns-2 : tie.Need-returns-2
 returns-2 c =
     let read = c .before .before in
     record { answer-is = sym (scheme-refused _ (first (read .before .before .before)) (λ z. c .if2 .taken (scheme-number read ∙ z))) }
-
-sub-rest : tie.Need-sub-rest
-sub-rest c = search needs
-
-part-rest-start : tie.Need-part-rest-start
-part-rest-start c = search needs
-
-part-rest-end : tie.Need-part-rest-end
-part-rest-end c = search needs
-
-card-wanted-requires-2 : tie.Need-card-wanted-requires-2
-card-wanted-requires-2 c κs = search needs
 
 returns-3 : tie.Need-returns-3
 returns-3 c =
@@ -98,17 +77,8 @@ returns-3 c =
     let wanted = wanted-second (c .before) in
     record { answer-is = wanted ∙ sym (second-wanted _ (first (else2 .before .before .before .before .before)) (scheme else2) (λ z. c .if3 .taken (wanted ∙ z))) }
 
-card-end-requires-2 : tie.Need-card-end-requires-2
-card-end-requires-2 c κs = search needs
-
 slice-aggregate-roster-on : tie.Need-slice-aggregate-roster-on
 slice-aggregate-roster-on c = sym (length-take-le _ _ (c .before .card-end2 .ensures .inside))
-
-slice-aggregate-roster-on-2 : tie.Need-slice-aggregate-roster-on-2
-slice-aggregate-roster-on-2 c = search needs
-
-roster-on-requires : tie.Need-roster-on-requires
-roster-on-requires c κs = search needs
 
 returns-4 : tie.Need-returns-4
 returns-4 c =
@@ -119,18 +89,6 @@ returns-4 c =
       answer-is = sym (roster-refused _ (first (else2 .before .before .before .before .before)) (scheme else2) (second else3)
           (λ z. c .if4 .taken (roster-number read ∙ z)));
     }
-
-sub-card-wanted : tie.Need-sub-card-wanted
-sub-card-wanted c = search needs
-
-part-card-wanted-start : tie.Need-part-card-wanted-start
-part-card-wanted-start c = search needs
-
-part-card-wanted-end : tie.Need-part-card-wanted-end
-part-card-wanted-end c = search needs
-
-card-wanted-requires-3 : tie.Need-card-wanted-requires-3
-card-wanted-requires-3 c κs = search needs
 
 returns-5 : tie.Need-returns-5
 returns-5 c =
@@ -149,24 +107,24 @@ pub batch-wanted-spec : {M : Type 1} → statement M
 batch-wanted-spec =
     tie.close
     (tie.spec
-    card-wanted-requires
+    (λ c κs. search needs)
     returns
-    card-end-requires
+    (λ c κs. search needs)
     slice-aggregate-read-scheme
-    read-scheme-requires
+    (λ c κs. search needs)
     returns-2
-    sub-rest
-    part-rest-start
-    part-rest-end
-    card-wanted-requires-2
+    (λ c. search needs)
+    (λ c. search needs)
+    (λ c. search needs)
+    (λ c κs. search needs)
     returns-3
-    card-end-requires-2
+    (λ c κs. search needs)
     slice-aggregate-roster-on
-    slice-aggregate-roster-on-2
-    roster-on-requires
+    (λ c. search needs)
+    (λ c κs. search needs)
     returns-4
-    sub-card-wanted
-    part-card-wanted-start
-    part-card-wanted-end
-    card-wanted-requires-3
+    (λ c. search needs)
+    (λ c. search needs)
+    (λ c. search needs)
+    (λ c κs. search needs)
     returns-5)

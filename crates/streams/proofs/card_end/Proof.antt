@@ -12,9 +12,6 @@ use Rattle.streams.proofs.card_end.Tie as tie
 returns : tie.Need-returns
 returns c = ends-early (c .before .before .args .stream .now) (omega arith)
 
-number-at-requires : tie.Need-number-at-requires
-number-at-requires c κs = search needs
-
 add-whole : tie.Need-add-whole
 add-whole c =
     let known = c .before .before in
@@ -31,4 +28,4 @@ returns-3 c =
     rw whole (ends-whole stream (omega (arith, c .before .number-at .ensures)))
 
 pub card-end-spec : {M : Type 1} → statement M
-card-end-spec = tie.close (tie.spec returns number-at-requires add-whole returns-2 returns-3)
+card-end-spec = tie.close (tie.spec returns (λ c κs. search needs) add-whole returns-2 returns-3)

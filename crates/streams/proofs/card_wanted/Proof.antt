@@ -9,20 +9,11 @@ use Rattle.streams.proofs.card_wanted.Tie as tie
 returns : tie.Need-returns
 returns c = wanted-none-yet _ (c .if1 .taken)
 
-shared-slice-read-if2 : tie.Need-shared-slice-read-if2
-shared-slice-read-if2 c = search needs
-
 returns-2 : tie.Need-returns-2
 returns-2 c = wanted-version _ (c .before .before .if1 .left) (c .if2 .taken)
 
-sub-result : tie.Need-sub-result
-sub-result c = search needs
-
 returns-3 : tie.Need-returns-3
 returns-3 c = wanted-header _ (c .before .before .before .if1 .left) (c .before .if2 .left) (c .if3 .taken)
-
-number-at-requires : tie.Need-number-at-requires
-number-at-requires c κs = search needs
 
 add-whole : tie.Need-add-whole
 add-whole c =
@@ -45,9 +36,6 @@ returns-5 c =
     (omega (arith, call .number-at .ensures)) in
     omega (arith, call .number-at .ensures, rest)
 
-sub-result-2 : tie.Need-sub-result-2
-sub-result-2 c = search needs
-
 returns-6 : tie.Need-returns-6
 returns-6 c =
     let call = c .before .before in
@@ -61,13 +49,13 @@ card-wanted-spec =
     tie.close
     (tie.spec
     returns
-    shared-slice-read-if2
+    (λ c. search needs)
     returns-2
-    sub-result
+    (λ c. search needs)
     returns-3
-    number-at-requires
+    (λ c κs. search needs)
     add-whole
     returns-4
     returns-5
-    sub-result-2
+    (λ c. search needs)
     returns-6)

@@ -4,12 +4,9 @@ use borrow.Author.Needs.{needs}
 use Rattle.streams.proofs.verdict_wanted.Statement.{statement}
 use Rattle.streams.proofs.verdict_wanted.Tie as tie
 
-card-wanted-requires : tie.Need-card-wanted-requires
-card-wanted-requires c κs = search needs
-
 returns : tie.Need-returns
 unfolding verdictWanted
 returns c = record { answer-is = c .card-wanted .ensures }
 
 pub verdict-wanted-spec : {M : Type 1} → statement M
-verdict-wanted-spec = tie.close (tie.spec card-wanted-requires returns)
+verdict-wanted-spec = tie.close (tie.spec (λ c κs. search needs) returns)

@@ -1,4 +1,4 @@
--- `cards::batch::is_batch_card` meets its contract: the tests are the definition's, in its order, on the body as the part from the third byte on.
+-- `cards::batch::is_batch_card` meets its contract: the tests are the definition's, in its order, on the body as the part past the header.
 -- Assumes nothing.
 use mathlib.Core.Path.{_≡_, sym, _∙_}
 use mathlib.Core.Bool.{true}
@@ -9,9 +9,6 @@ use Rattle.model.specs.Cards.{isCard, requestCount, isBatchCard}
 use Rattle.cards.proofs.Filling.{card-length}
 use Rattle.cards.proofs.batch.is_batch_card.Statement.{statement}
 use Rattle.cards.proofs.batch.is_batch_card.Tie as tie
-
-is-card-requires : tie.Need-is-card-requires
-is-card-requires c κs = search needs
 
 returns : tie.Need-returns
 unfolding isBatchCard
@@ -26,15 +23,9 @@ sub-body c = card-length _ (a-card c) .0
 part-body-start : tie.Need-part-body-start
 part-body-start c = card-length _ (a-card c) .0
 
-part-body-end : tie.Need-part-body-end
-part-body-end c = search needs
-
 returns-2 : tie.Need-returns-2
 unfolding isBatchCard
 returns-2 c = rw (a-card (c .before .before), lt-leb _ _ (rw part-to-end at (c .if2 .taken)))
-
-number-at-requires : tie.Need-number-at-requires
-number-at-requires c κs = search needs
 
 counted : (c : tie.After-number-at) → c .number-at .result ≡ requestCount (c .before .before .before .before .before .before .args .card .now)
 counted c = rw part-to-end at (c .number-at .ensures)
@@ -48,18 +39,6 @@ returns-3 c =
       le-leb _ _ (rw part-to-end at (long .if2 .left)),
       lt-leb _ _ (rw (counted (c .before)) at (c .if3 .taken)),
     )
-
-sub-entries-fill : tie.Need-sub-entries-fill
-sub-entries-fill c = search needs
-
-part-entries-fill-start : tie.Need-part-entries-fill-start
-part-entries-fill-start c = search needs
-
-part-entries-fill-end : tie.Need-part-entries-fill-end
-part-entries-fill-end c = search needs
-
-entries-fill-requires : tie.Need-entries-fill-requires
-entries-fill-requires c κs = search needs
 
 returns-4 : tie.Need-returns-4
 unfolding isBatchCard
@@ -76,16 +55,16 @@ pub is-batch-card-spec : {M : Type 1} → statement M
 is-batch-card-spec =
     tie.close
     (tie.spec
-    is-card-requires
+    (λ c κs. search needs)
     returns
     sub-body
     part-body-start
-    part-body-end
+    (λ c. search needs)
     returns-2
-    number-at-requires
+    (λ c κs. search needs)
     returns-3
-    sub-entries-fill
-    part-entries-fill-start
-    part-entries-fill-end
-    entries-fill-requires
+    (λ c. search needs)
+    (λ c. search needs)
+    (λ c. search needs)
+    (λ c κs. search needs)
     returns-4)

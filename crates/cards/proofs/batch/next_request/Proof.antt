@@ -11,12 +11,6 @@ use Rattle.cards.proofs.Places.{next-past, next-whole}
 use Rattle.cards.proofs.batch.next_request.Statement.{statement}
 use Rattle.cards.proofs.batch.next_request.Tie as tie
 
-next-entry-requires : tie.Need-next-entry-requires
-next-entry-requires c κs = search needs
-
-enum-known-size : tie.Need-enum-known-size
-enum-known-size c = search needs
-
 enum-told : tie.Need-enum-told
 enum-told c = search needs
 
@@ -56,8 +50,8 @@ pub next-request-spec : {M : Type 1} → statement M
 next-request-spec =
     tie.close
     (tie.spec
-    next-entry-requires
-    enum-known-size
+    (λ c κs. search needs)
+    (λ c. search needs)
     enum-told
     returns
     shared-slice-read-t5

@@ -12,12 +12,6 @@ returns : tie.Need-returns
 unfolding isWhole entryOf
 returns c = rw (lt-leb _ _ (c .if1 .taken))
 
-sub-last : tie.Need-sub-last
-sub-last c = search needs
-
-shared-slice-read-size : tie.Need-shared-slice-read-size
-shared-slice-read-size c = search needs
-
 cast-size : tie.Need-cast-size
 cast-size c = omega (arith, c .shared-slice-known .given (c .before .before .args .fixed - 1))
 
@@ -33,4 +27,4 @@ unfolding isWhole entryOf
 returns-3 c = rw (le-leb _ _ (c .before .before .if1 .left), le-leb _ _ (c .if2 .left))
 
 pub next-entry-spec : {M : Type 1} → statement M
-next-entry-spec = tie.close (tie.spec returns sub-last shared-slice-read-size cast-size add-size returns-2 returns-3)
+next-entry-spec = tie.close (tie.spec returns (λ c. search needs) (λ c. search needs) cast-size add-size returns-2 returns-3)

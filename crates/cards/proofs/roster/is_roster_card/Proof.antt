@@ -1,4 +1,4 @@
--- `cards::roster::is_roster_card` meets its contract: the tests are the definition's, in its order, on the body as the part from the third byte on.
+-- `cards::roster::is_roster_card` meets its contract: the tests are the definition's, in its order, on the body as the part past the header.
 -- Assumes nothing.
 use mathlib.Core.Path.{_≡_, sym, _∙_}
 use mathlib.Core.Bool.{true}
@@ -10,9 +10,6 @@ use Rattle.model.specs.Cards.{isCard, isRosterCard}
 use Rattle.cards.proofs.Filling.{card-length}
 use Rattle.cards.proofs.roster.is_roster_card.Statement.{statement}
 use Rattle.cards.proofs.roster.is_roster_card.Tie as tie
-
-is-card-requires : tie.Need-is-card-requires
-is-card-requires c κs = search needs
 
 returns : tie.Need-returns
 unfolding isRosterCard
@@ -27,30 +24,12 @@ sub-body c = card-length _ (a-card c) .0
 part-body-start : tie.Need-part-body-start
 part-body-start c = card-length _ (a-card c) .0
 
-part-body-end : tie.Need-part-body-end
-part-body-end c = search needs
-
 returns-2 : tie.Need-returns-2
 unfolding isRosterCard
 returns-2 c = rw (a-card (c .before .before), lt-leb _ _ (rw part-to-end at (c .if2 .taken)))
 
-sub-entries-fill : tie.Need-sub-entries-fill
-sub-entries-fill c = search needs
-
-part-entries-fill-start : tie.Need-part-entries-fill-start
-part-entries-fill-start c = search needs
-
-part-entries-fill-end : tie.Need-part-entries-fill-end
-part-entries-fill-end c = search needs
-
-shared-slice-read-entries-fill : tie.Need-shared-slice-read-entries-fill
-shared-slice-read-entries-fill c = search needs
-
 cast-entries-fill : tie.Need-cast-entries-fill
 cast-entries-fill c = omega (arith, c .shared-slice-known2 .given 0)
-
-entries-fill-requires : tie.Need-entries-fill-requires
-entries-fill-requires c κs = search needs
 
 returns-3 : tie.Need-returns-3
 unfolding isRosterCard
@@ -65,16 +44,16 @@ pub is-roster-card-spec : {M : Type 1} → statement M
 is-roster-card-spec =
     tie.close
     (tie.spec
-    is-card-requires
+    (λ c κs. search needs)
     returns
     sub-body
     part-body-start
-    part-body-end
+    (λ c. search needs)
     returns-2
-    sub-entries-fill
-    part-entries-fill-start
-    part-entries-fill-end
-    shared-slice-read-entries-fill
+    (λ c. search needs)
+    (λ c. search needs)
+    (λ c. search needs)
+    (λ c. search needs)
     cast-entries-fill
-    entries-fill-requires
+    (λ c κs. search needs)
     returns-3)

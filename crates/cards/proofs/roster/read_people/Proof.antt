@@ -15,17 +15,11 @@ sub-body c = roster-size _ (c .before .before .pre .0) .header
 part-body-start : tie.Need-part-body-start
 part-body-start c = roster-size _ (c .before .before .pre .0) .header
 
-part-body-end : tie.Need-part-body-end
-part-body-end c = search needs
-
 sub-write-people : tie.Need-sub-write-people
 sub-write-people c = rw part-to-end (roster-size _ (c .before .before .before .pre .0) .count)
 
 part-write-people-start : tie.Need-part-write-people-start
 part-write-people-start c = rw part-to-end (roster-size _ (c .before .before .before .pre .0) .count)
-
-part-write-people-end : tie.Need-part-write-people-end
-part-write-people-end c = search needs
 
 shared-slice-read-write-people : tie.Need-shared-slice-read-write-people
 shared-slice-read-write-people c = rw part-to-end (roster-size _ (c .before .before .before .before .before .pre .0) .count)
@@ -39,9 +33,6 @@ write-people-requires c κs =
     let few = simp passed at (start .pre .1) in
     simp part-to-end (roster-size _ (start .pre .0) .filled, omega arith)
 
-same-length : tie.Need-same-length
-same-length c = search needs
-
 returns : tie.Need-returns
 unfolding peopleOf
 returns c = simp part-to-end at (c .before .before .write-people .ensures)
@@ -52,12 +43,12 @@ read-people-spec =
     (tie.spec
     sub-body
     part-body-start
-    part-body-end
+    (λ c. search needs)
     sub-write-people
     part-write-people-start
-    part-write-people-end
+    (λ c. search needs)
     shared-slice-read-write-people
     cast-write-people
     write-people-requires
-    same-length
+    (λ c. search needs)
     returns)

@@ -7,12 +7,6 @@ use Rattle.model.specs.Codes.{padded, packed}
 use Rattle.cards.proofs.roster.readable_code.Statement.{statement}
 use Rattle.cards.proofs.roster.readable_code.Tie as tie
 
-pack-requires : tie.Need-pack-requires
-pack-requires c κs = search needs
-
-spelled-requires : tie.Need-spelled-requires
-spelled-requires c κs = search needs
-
 returns : tie.Need-returns
 unfolding padded packed
 returns c = rw (sym (c .before .spelled .ensures) ∙ not-true _ (c .if1 .taken))
@@ -21,4 +15,4 @@ returns-2 : tie.Need-returns-2
 returns-2 c = rw (sym (c .before .spelled .ensures) ∙ not-false _ (c .if1 .left)) (c .before .before .pack .ensures)
 
 pub readable-code-spec : {M : Type 1} → statement M
-readable-code-spec = tie.close (tie.spec pack-requires spelled-requires returns returns-2)
+readable-code-spec = tie.close (tie.spec (λ c κs. search needs) (λ c κs. search needs) returns returns-2)

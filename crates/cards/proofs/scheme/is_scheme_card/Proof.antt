@@ -1,4 +1,4 @@
--- `cards::scheme::is_scheme_card` meets its contract: the tests are the definition's, in its order, on the body as the part from the third byte on.
+-- `cards::scheme::is_scheme_card` meets its contract: the tests are the definition's, in its order, on the body as the part past the header.
 -- Assumes nothing.
 use mathlib.Core.Path.{_≡_, sym, _∙_}
 use mathlib.Core.Bool.{true}
@@ -10,9 +10,6 @@ use Rattle.model.specs.Cards.{isCard, isSchemeCard}
 use Rattle.cards.proofs.Filling.{card-length}
 use Rattle.cards.proofs.scheme.is_scheme_card.Statement.{statement}
 use Rattle.cards.proofs.scheme.is_scheme_card.Tie as tie
-
-is-card-requires : tie.Need-is-card-requires
-is-card-requires c κs = search needs
 
 returns : tie.Need-returns
 unfolding isSchemeCard
@@ -27,15 +24,9 @@ sub-body c = card-length _ (a-card c) .0
 part-body-start : tie.Need-part-body-start
 part-body-start c = card-length _ (a-card c) .0
 
-part-body-end : tie.Need-part-body-end
-part-body-end c = search needs
-
 returns-2 : tie.Need-returns-2
 unfolding isSchemeCard
 returns-2 c = rw (a-card (c .before .before), lt-leb _ _ (rw part-to-end at (c .if2 .taken)))
-
-shared-slice-read-result : tie.Need-shared-slice-read-result
-shared-slice-read-result c = search needs
 
 cast-result : tie.Need-cast-result
 cast-result c = omega (arith, c .shared-slice-known2 .given 3)
@@ -56,13 +47,13 @@ pub is-scheme-card-spec : {M : Type 1} → statement M
 is-scheme-card-spec =
     tie.close
     (tie.spec
-    is-card-requires
+    (λ c κs. search needs)
     returns
     sub-body
     part-body-start
-    part-body-end
+    (λ c. search needs)
     returns-2
-    shared-slice-read-result
+    (λ c. search needs)
     cast-result
     mul-result
     add-result

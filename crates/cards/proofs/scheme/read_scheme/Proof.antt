@@ -10,12 +10,6 @@ use Rattle.cards.proofs.Commands.{no-scheme, scheme-number, loaded-judg
 use Rattle.cards.proofs.scheme.read_scheme.Statement.{statement}
 use Rattle.cards.proofs.scheme.read_scheme.Tie as tie
 
-is-scheme-card-requires : tie.Need-is-scheme-card-requires
-is-scheme-card-requires c κs = search needs
-
-empty-requires : tie.Need-empty-requires
-empty-requires c κs = search needs
-
 returns : tie.Need-returns
 returns c =
     let refused = c .before in
@@ -30,9 +24,6 @@ a-scheme c = sym (c .before .is-scheme-card .ensures) ∙ not-false _ (c .if1 .l
 
 scheme-on-requires : tie.Need-scheme-on-requires
 scheme-on-requires c κs = a-scheme c
-
-is-valid-requires : tie.Need-is-valid-requires
-is-valid-requires c κs = search needs
 
 returns-2 : tie.Need-returns-2
 returns-2 c =
@@ -54,10 +45,10 @@ pub read-scheme-spec : {M : Type 1} → statement M
 read-scheme-spec =
     tie.close
     (tie.spec
-    is-scheme-card-requires
-    empty-requires
+    (λ c κs. search needs)
+    (λ c κs. search needs)
     returns
     scheme-on-requires
-    is-valid-requires
+    (λ c κs. search needs)
     returns-2
     returns-3)

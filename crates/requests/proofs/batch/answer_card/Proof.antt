@@ -19,9 +19,6 @@ sub-body c = omega (arith, size (c .before .before .before .before) .header)
 part-body-start : tie.Need-part-body-start
 part-body-start c = omega (arith, size (c .before .before .before .before) .header)
 
-part-body-end : tie.Need-part-body-end
-part-body-end c = search needs
-
 number-at-requires : tie.Need-number-at-requires
 number-at-requires c κs =
     let start = c .before .before .before .before .before in
@@ -41,21 +38,12 @@ part-answer-all-start c =
     let start = c .before .before .before .before .before .before .before in
     rw (part-to-end (start .args .card .now) 3) (omega (arith, size start .count))
 
-part-answer-all-end : tie.Need-part-answer-all-end
-part-answer-all-end c = search needs
-
 answer-all-requires : tie.Need-answer-all-requires
 answer-all-requires c κs =
     let read = c .before .before .before in
     let start = read .before .before .before .before .before .before in
     let card = start .args .card .now in
     rw (part-to-end card 3, part-to-end (drop 3 card) 2, counted read) (start .pre .0, size start .filled, size start .few, start .pre .2)
-
-same-length : tie.Need-same-length
-same-length c = search needs
-
-same-length-2 : tie.Need-same-length-2
-same-length-2 c = search needs
 
 returns : tie.Need-returns
 returns c =
@@ -70,12 +58,12 @@ answer-card-spec =
     (tie.spec
     sub-body
     part-body-start
-    part-body-end
+    (λ c. search needs)
     number-at-requires
     sub-answer-all
     part-answer-all-start
-    part-answer-all-end
+    (λ c. search needs)
     answer-all-requires
-    same-length
-    same-length-2
+    (λ c. search needs)
+    (λ c. search needs)
     returns)

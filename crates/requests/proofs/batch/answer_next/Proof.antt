@@ -6,12 +6,6 @@ use Rattle.requests.proofs.Batching.{never-past, read, stepped}
 use Rattle.requests.proofs.batch.answer_next.Statement.{statement}
 use Rattle.requests.proofs.batch.answer_next.Tie as tie
 
-next-request-requires : tie.Need-next-request-requires
-next-request-requires c κs = search needs
-
-enum-known-command : tie.Need-enum-known-command
-enum-known-command c = search needs
-
 enum-told : tie.Need-enum-told
 enum-told c = search needs
 
@@ -38,12 +32,6 @@ part-answered-end c =
     let r = read _ (asked .before .before .before .before .pre .1) _ (asked .next-request .ensures) _ _ _ _ (c .before .before .command .given .1) in
     omega (arith, r .fits)
 
-answered-requires : tie.Need-answered-requires
-answered-requires c κs = search needs
-
-same-length : tie.Need-same-length
-same-length c = search needs
-
 returns-2 : tie.Need-returns-2
 returns-2 c =
     let found = c .before .before .before .before .before .before in
@@ -55,13 +43,13 @@ pub answer-next-spec : {M : Type 1} → statement M
 answer-next-spec =
     tie.close
     (tie.spec
-    next-request-requires
-    enum-known-command
+    (λ c κs. search needs)
+    (λ c. search needs)
     enum-told
     returns
     sub-answered
     part-answered-start
     part-answered-end
-    answered-requires
-    same-length
+    (λ c κs. search needs)
+    (λ c. search needs)
     returns-2)

@@ -5,9 +5,6 @@ use Rattle.requests.proofs.Batching.{done-one, done-none}
 use Rattle.requests.proofs.batch.done_with.Statement.{statement}
 use Rattle.requests.proofs.batch.done_with.Tie as tie
 
-add-result : tie.Need-add-result
-add-result c = search needs
-
 returns : tie.Need-returns
 returns c = done-one _ _ (c .if1 .taken)
 
@@ -15,4 +12,4 @@ returns-2 : tie.Need-returns-2
 returns-2 c = done-none _ _ (c .if1 .left)
 
 pub done-with-spec : {M : Type 1} → statement M
-done-with-spec = tie.close (tie.spec add-result returns returns-2)
+done-with-spec = tie.close (tie.spec (λ c. search needs) returns returns-2)

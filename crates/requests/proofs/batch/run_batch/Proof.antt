@@ -18,35 +18,21 @@ handed c l = handedBy l (c .args .people) (c .args .roster .now) (c .args .store
 abbrev start : tie.After-has-rooms → tie.Start
 start c = c .before .before .before .before .before .before
 
-has-rooms-requires : tie.Need-has-rooms-requires
-has-rooms-requires c κs = search needs
-
-same-length : tie.Need-same-length
-same-length c = search needs
-
 returns : tie.Need-returns
-returns c = no-rooms _ _ _ _ (c .before .has-rooms .ensures _ _) (c .if1 .taken)
-
-same-length-2 : tie.Need-same-length-2
-same-length-2 c = search needs
+returns c = rw (c .refused .ensures) (no-rooms _ _ _ _ (c .before .before .has-rooms .ensures _ _) (c .before .if1 .taken))
 
 returns-2 : tie.Need-returns-2
-returns-2 c = answers-short _ _ _ _ (c .before .before .has-rooms .ensures _ _) (c .before .if1 .left) (c .if2 .taken)
-
-is-batch-card-requires : tie.Need-is-batch-card-requires
-is-batch-card-requires c κs = search needs
-
-same-length-3 : tie.Need-same-length-3
-same-length-3 c = search needs
+returns-2 c =
+    let short = c .before in
+    rw (c .refused2 .ensures) (answers-short _ _ _ _ (short .before .before .has-rooms .ensures _ _) (short .before .if1 .left) (short .if2 .taken))
 
 returns-3 : tie.Need-returns-3
 returns-3 c =
-    let roomy = c .before .before in
-    no-batch _ _ _ _ (roomy .before .before .has-rooms .ensures _ _) (roomy .before .if1 .left) (roomy .if2 .left) _ (c .before .is-batch-card .ensures)
-    (c .if3 .taken)
-
-counted-requires : tie.Need-counted-requires
-counted-requires c κs = search needs
+    let card = c .before .before in
+    let roomy = card .before in
+    rw (c .refused3 .ensures)
+    (no-batch _ _ _ _ (roomy .before .before .has-rooms .ensures _ _) (roomy .before .if1 .left) (roomy .if2 .left) _ (card .is-batch-card .ensures)
+    (c .before .if3 .taken))
 
 handed-number-requires : tie.Need-handed-number-requires
 handed-number-requires c κs =
@@ -54,19 +40,17 @@ handed-number-requires c κs =
     let room = roomy .before .before in
     rooms (handed (start room) (c .before .counted .result)) (sym (room .has-rooms .ensures _ _) ∙ not-false _ (roomy .before .if1 .left))
 
-same-length-4 : tie.Need-same-length-4
-same-length-4 c = search needs
-
 returns-4 : tie.Need-returns-4
 returns-4 c =
-    let scheme = c .before .before .before in
+    let number = c .before .before in
+    let scheme = number .before .before in
     let roomy = scheme .before .before .before in
     let room = roomy .before .before in
     let first = start room in
-    rw (scheme .counted .ensures) at
+    rw (c .refused4 .ensures) (rw (scheme .counted .ensures) at
     (not-accepted (handed first (scheme .counted .result)) (first .args .card .now) (first .args .answers .now) _ (room .has-rooms .ensures _ _)
     (roomy .before .if1 .left) (roomy .if2 .left) _ (scheme .before .before .is-batch-card .ensures) (scheme .before .if3 .left) _
-    (c .before .handed-number .ensures) (c .if4 .taken))
+    (number .handed-number .ensures) (c .before .if4 .taken)))
 
 answer-card-requires : tie.Need-answer-card-requires
 answer-card-requires c κs =
@@ -79,12 +63,6 @@ answer-card-requires c κs =
       sym (scheme .before .before .is-batch-card .ensures) ∙ not-false _ (scheme .before .if3 .left),
       roomy .if2 .left,
     )
-
-same-length-5 : tie.Need-same-length-5
-same-length-5 c = search needs
-
-same-length-6 : tie.Need-same-length-6
-same-length-6 c = search needs
 
 returns-5 : tie.Need-returns-5
 returns-5 c =
@@ -103,19 +81,23 @@ pub run-batch-spec : {M : Type 1} → statement M
 run-batch-spec =
     tie.close
     (tie.spec
-    has-rooms-requires
-    same-length
+    (λ c κs. search needs)
+    (λ c κs. search needs)
+    (λ c. search needs)
     returns
-    same-length-2
+    (λ c κs. search needs)
+    (λ c. search needs)
     returns-2
-    is-batch-card-requires
-    same-length-3
+    (λ c κs. search needs)
+    (λ c κs. search needs)
+    (λ c. search needs)
     returns-3
-    counted-requires
+    (λ c κs. search needs)
     handed-number-requires
-    same-length-4
+    (λ c κs. search needs)
+    (λ c. search needs)
     returns-4
     answer-card-requires
-    same-length-5
-    same-length-6
+    (λ c. search needs)
+    (λ c. search needs)
     returns-5)

@@ -5,12 +5,6 @@ use Rattle.requests.proofs.Deciding.{code-exists, store-full, create-pa
 use Rattle.requests.proofs.numbers.create_number.Statement.{statement}
 use Rattle.requests.proofs.numbers.create_number.Tie as tie
 
-design-count-requires : tie.Need-design-count-requires
-design-count-requires c κs = search needs
-
-place-named-requires : tie.Need-place-named-requires
-place-named-requires c κs = search needs
-
 returns : tie.Need-returns
 returns c = code-exists _ _ _ (c .before .before .design-count .ensures) _ (c .before .place-named .ensures) (c .if1 .taken)
 
@@ -25,4 +19,4 @@ returns-3 c =
     create-passes _ _ _ (found .before .design-count .ensures) _ (found .place-named .ensures) (c .before .if1 .left) (c .if2 .left)
 
 pub create-number-spec : {M : Type 1} → statement M
-create-number-spec = tie.close (tie.spec design-count-requires place-named-requires returns returns-2 returns-3)
+create-number-spec = tie.close (tie.spec (λ c κs. search needs) (λ c κs. search needs) returns returns-2 returns-3)

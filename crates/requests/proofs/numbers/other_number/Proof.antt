@@ -5,20 +5,8 @@ use Rattle.requests.proofs.Deciding.{no-design, other-kind, not-held, o
 use Rattle.requests.proofs.numbers.other_number.Statement.{statement}
 use Rattle.requests.proofs.numbers.other_number.Tie as tie
 
-place-named-requires : tie.Need-place-named-requires
-place-named-requires c κs = search needs
-
-design-count-requires : tie.Need-design-count-requires
-design-count-requires c κs = search needs
-
 returns : tie.Need-returns
 returns c = no-design _ _ _ (c .before .design-count .ensures) _ (c .before .before .place-named .ensures) _ _ (c .if1 .taken)
-
-kind-at-requires : tie.Need-kind-at-requires
-kind-at-requires c κs = search needs
-
-cast-if2 : tie.Need-cast-if2
-cast-if2 c = search needs
 
 returns-2 : tie.Need-returns-2
 returns-2 c =
@@ -26,12 +14,6 @@ returns-2 c =
     let counted = kinded .before .before in
     other-kind _ _ _ (counted .design-count .ensures) _ (counted .before .place-named .ensures) _ _ (kinded .before .if1 .left) _ (kinded .kind-at .ensures)
     (c .if2 .taken)
-
-cell-at-requires : tie.Need-cell-at-requires
-cell-at-requires c κs = search needs
-
-within-requires : tie.Need-within-requires
-within-requires c κs = search needs
 
 returns-3 : tie.Need-returns-3
 returns-3 c =
@@ -53,13 +35,13 @@ pub other-number-spec : {M : Type 1} → statement M
 other-number-spec =
     tie.close
     (tie.spec
-    place-named-requires
-    design-count-requires
+    (λ c κs. search needs)
+    (λ c κs. search needs)
     returns
-    kind-at-requires
-    cast-if2
+    (λ c κs. search needs)
+    (λ c. search needs)
     returns-2
-    cell-at-requires
-    within-requires
+    (λ c κs. search needs)
+    (λ c κs. search needs)
     returns-3
     returns-4)

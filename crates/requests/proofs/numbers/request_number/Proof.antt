@@ -40,9 +40,6 @@ returns-2 c =
     who-refused _ _ _ _ (omega (arith, counted (named .before .before .before .before .before .before))) _ (named .command-of .ensures) _
     (c .before .who-number .ensures) (c .if2 .taken)
 
-spelled-requires : tie.Need-spelled-requires
-spelled-requires c κs = search needs
-
 returns-3 : tie.Need-returns-3
 returns-3 c =
     let who = c .before .before .before in
@@ -90,7 +87,7 @@ request-number-spec =
     command-of-requires
     who-number-requires
     returns-2
-    spelled-requires
+    (λ c κs. search needs)
     returns-3
     create-number-requires
     returns-4

@@ -11,23 +11,11 @@ returns c = no-source _ _ _ _ _ (c .if1 .taken)
 returns-2 : tie.Need-returns-2
 returns-2 c = no-destination _ _ _ _ _ (c .before .if1 .left) (c .if2 .taken)
 
-type-at-requires : tie.Need-type-at-requires
-type-at-requires c κs = search needs
-
-cast-if3 : tie.Need-cast-if3
-cast-if3 c = search needs
-
 returns-3 : tie.Need-returns-3
 returns-3 c =
     let first = c .before .before in
     let la = first .before .before .if1 .left in
     source-other _ _ _ _ _ la (first .before .if2 .left) _ (first .type-at .ensures _ la) (c .if3 .taken)
-
-type-at-requires-2 : tie.Need-type-at-requires-2
-type-at-requires-2 c κs = search needs
-
-cast-if4 : tie.Need-cast-if4
-cast-if4 c = search needs
 
 returns-4 : tie.Need-returns-4
 returns-4 c =
@@ -36,9 +24,6 @@ returns-4 c =
     let la = first .before .before .if1 .left in
     let ld = first .before .if2 .left in
     destination-other _ _ _ _ _ la ld _ (first .type-at .ensures _ la) (second .before .if3 .left) _ (second .type-at2 .ensures _ ld) (c .if4 .taken)
-
-two-people-requires : tie.Need-two-people-requires
-two-people-requires c κs = search needs
 
 returns-5 : tie.Need-returns-5
 returns-5 c =
@@ -64,12 +49,12 @@ who-number-spec =
     (tie.spec
     returns
     returns-2
-    type-at-requires
-    cast-if3
+    (λ c κs. search needs)
+    (λ c. search needs)
     returns-3
-    type-at-requires-2
-    cast-if4
+    (λ c κs. search needs)
+    (λ c. search needs)
     returns-4
-    two-people-requires
+    (λ c κs. search needs)
     returns-5
     returns-6)

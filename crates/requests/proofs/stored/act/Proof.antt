@@ -8,30 +8,6 @@ use Rattle.model.specs.Forms.{act}
 use Rattle.requests.proofs.stored.act.Statement.{statement}
 use Rattle.requests.proofs.stored.act.Tie as tie
 
-mul-cells : tie.Need-mul-cells
-mul-cells c = search needs
-
-add-cells : tie.Need-add-cells
-add-cells c = search needs
-
-add-cells-2 : tie.Need-add-cells-2
-add-cells-2 c = search needs
-
-add-from : tie.Need-add-from
-add-from c = search needs
-
-add-to : tie.Need-add-to
-add-to c = search needs
-
-lose-requires : tie.Need-lose-requires
-lose-requires c κs = search needs
-
-gain-requires : tie.Need-gain-requires
-gain-requires c κs = search needs
-
-same-length : tie.Need-same-length
-same-length c = search needs
-
 returns : tie.Need-returns
 unfolding act
 returns c =
@@ -44,12 +20,12 @@ pub act-spec : {M : Type 1} → statement M
 act-spec =
     tie.close
     (tie.spec
-    mul-cells
-    add-cells
-    add-cells-2
-    add-from
-    add-to
-    lose-requires
-    gain-requires
-    same-length
+    (λ c. search needs)
+    (λ c. search needs)
+    (λ c. search needs)
+    (λ c. search needs)
+    (λ c. search needs)
+    (λ c κs. search needs)
+    (λ c κs. search needs)
+    (λ c. search needs)
     returns)

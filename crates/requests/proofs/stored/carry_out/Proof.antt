@@ -26,9 +26,6 @@ create-requires c κs =
     let k = named .before .before .before .pre in
     (k .room, create-room _ _ _ k _ (named .command-of .ensures) (c .before .if1 .taken), source-few _ _ _ k)
 
-same-length : tie.Need-same-length
-same-length c = search needs
-
 returns : tie.Need-returns
 returns c =
     let named = c .before .before .before .before .before .before in
@@ -52,9 +49,6 @@ act-requires c κs =
       destination-few _ _ _ k,
     )
 
-same-length-2 : tie.Need-same-length-2
-same-length-2 c = search needs
-
 returns-2 : tie.Need-returns-2
 returns-2 c =
     let found = c .before .before .before .before in
@@ -70,9 +64,9 @@ carry-out-spec =
     (tie.spec
     command-of-requires
     create-requires
-    same-length
+    (λ c. search needs)
     returns
     place-named-requires
     act-requires
-    same-length-2
+    (λ c. search needs)
     returns-2)

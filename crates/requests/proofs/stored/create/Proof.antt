@@ -14,14 +14,8 @@ use Rattle.requests.proofs.stored.create.Tie as tie
 few : (c : tie.Start) → getD (c .args .store .now) 0 0 < 64
 few c = omega (arith, store-length (c .args .store .now))
 
-slice-read-count : tie.Need-slice-read-count
-slice-read-count c = search needs
-
 add-store : tie.Need-add-store
 add-store c = omega (arith, few (c .before .before .before))
-
-slice-write-store : tie.Need-slice-write-store
-slice-write-store c = search needs
 
 cast-at : tie.Need-cast-at
 cast-at c = omega (arith, few (c .before .before .before))
@@ -38,20 +32,8 @@ add-end c = omega (arith, few (c .before .before .before))
 mul-write-design : tie.Need-mul-write-design
 mul-write-design c = omega (arith, few (c .before .before .before))
 
-sub-write-design : tie.Need-sub-write-design
-sub-write-design c = search needs
-
-part-write-design-start : tie.Need-part-write-design-start
-part-write-design-start c = search needs
-
 part-write-design-end : tie.Need-part-write-design-end
 part-write-design-end c = simp length-set (omega (arith, few (c .before .before .before)))
-
-pack-requires : tie.Need-pack-requires
-pack-requires c κs = search needs
-
-write-design-requires : tie.Need-write-design-requires
-write-design-requires c κs = search needs
 
 same-length : tie.Need-same-length
 same-length c =
@@ -72,18 +54,18 @@ pub create-spec : {M : Type 1} → statement M
 create-spec =
     tie.close
     (tie.spec
-    slice-read-count
+    (λ c. search needs)
     add-store
-    slice-write-store
+    (λ c. search needs)
     cast-at
     mul-at
     add-at
     add-end
     mul-write-design
-    sub-write-design
-    part-write-design-start
+    (λ c. search needs)
+    (λ c. search needs)
     part-write-design-end
-    pack-requires
-    write-design-requires
+    (λ c κs. search needs)
+    (λ c κs. search needs)
     same-length
     returns)

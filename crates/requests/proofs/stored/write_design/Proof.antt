@@ -7,35 +7,14 @@ use Rattle.requests.proofs.Storing.{design-words}
 use Rattle.requests.proofs.stored.write_design.Statement.{statement}
 use Rattle.requests.proofs.stored.write_design.Tie as tie
 
-clear-requires : tie.Need-clear-requires
-clear-requires c κs = search needs
-
-cast-words : tie.Need-cast-words
-cast-words c = search needs
-
-slice-write-words : tie.Need-slice-write-words
-slice-write-words c = search needs
-
-slice-write-words-2 : tie.Need-slice-write-words-2
-slice-write-words-2 c = search needs
-
 slice-write-words-3 : tie.Need-slice-write-words-3
 slice-write-words-3 c = simp length-set (omega arith)
 
 slice-write-words-4 : tie.Need-slice-write-words-4
 slice-write-words-4 c = simp length-set (omega arith)
 
-add-words : tie.Need-add-words
-add-words c = search needs
-
-mul-words : tie.Need-mul-words
-mul-words c = search needs
-
 slice-write-words-5 : tie.Need-slice-write-words-5
 slice-write-words-5 c = simp length-set (omega arith)
-
-same-length : tie.Need-same-length
-same-length c = search needs
 
 returns : tie.Need-returns
 returns c =
@@ -46,14 +25,14 @@ pub write-design-spec : {M : Type 1} → statement M
 write-design-spec =
     tie.close
     (tie.spec
-    clear-requires
-    cast-words
-    slice-write-words
-    slice-write-words-2
+    (λ c κs. search needs)
+    (λ c. search needs)
+    (λ c. search needs)
+    (λ c. search needs)
     slice-write-words-3
     slice-write-words-4
-    add-words
-    mul-words
+    (λ c. search needs)
+    (λ c. search needs)
     slice-write-words-5
-    same-length
+    (λ c. search needs)
     returns)
