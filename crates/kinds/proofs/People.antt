@@ -1,18 +1,18 @@
 -- The people of a roster by their numbers: what those of a type hold, put together from the last on, and whether some two clash, looked for from
 -- the first on. Assumes nothing.
 use Prim.Native.Nat.{ℕ, suc, _+_, _≤_, _<_}
-use mathlib.Core.Bool.{Bool, true, false}
+use mathlib.Core.Bool.{Bool, true, false, and-assoc}
 use mathlib.Core.List.{List, _∷_, map}
 use mathlib.Core.Path.{_≡_, refl, sym, _∙_}
 use native.Mathlib.Nat.{zero-add}
 use native.Mathlib.Omega.{arith}
 use borrow.Author.Tests.{lt-ltb, le-ltb, eq-eqb, ne-eqb}
-use lib.Dec.{eqb}
+use lib.Dec.{ltb, eqb}
 use lib.ListN.{length, getD, take, drop, drop-of-length-le, length-take}
 use lib.Seq.{getD-take, drop-cons, take-all}
 use Rattle.model.specs.declared.Command.{Command}
 use Rattle.model.specs.Words.{any, those, numbersFrom}
-use Rattle.model.specs.Rights.{withThose, together}
+use Rattle.model.specs.Rights.{common, meets, withThose, together}
 use Rattle.model.specs.Rosters.{Person, typeAt}
 use Rattle.model.specs.Forms.{cellAt}
 use Rattle.model.specs.Kinds.{both, clash, overlaps, ofType, rowOfDesign}
@@ -83,7 +83,12 @@ module _ (set : ℕ) (people : List Person) (cells : List ℕ) where
     pub behind : (b : ℕ) → a < b → {r x : Bool} → r ≡ share set people cells a b → r ≡ x → clashBy set people cells a b ≡ x
     behind b h given is = rw (lt-ltb a b h) (sym given ∙ is)
 
+  clash-by : (commands : List Command) (kind a b : ℕ) → set ≡ both commands kind → clashBy set people cells a b ≡ clash commands kind people cells a b
+  unfolding clash
+  clash-by commands kind a b e =
+      rw e (sym (and-assoc (ltb a b) (eqb (typeAt people a) (typeAt people b)) (meets (common (cellAt cells a) (cellAt cells b)) (both commands kind))))
+
   pub overlaps-by : (commands : List Command) (kind n : ℕ) → set ≡ both commands kind → n ≡ length people
       → any (λ a. any (clashBy set people cells a) (numbersFrom 0 n)) (numbersFrom 0 n) ≡ overlaps commands kind people cells
-  unfolding overlaps clash
-  overlaps-by commands kind n e count = rw (e, count)
+  unfolding overlaps
+  overlaps-by commands kind n e count = λ i. any (λ (a : ℕ). any (λ (b : ℕ). clash-by commands kind a b e i) (numbersFrom 0 (count i))) (numbersFrom 0 (count i))

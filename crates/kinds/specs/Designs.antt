@@ -19,4 +19,4 @@ share set people cells a b = eqb (typeAt people a) (typeAt people b) && meets (c
 
 -- a clash, by the set of the rights that are both propagation and deletable
 abbrev pub clashBy : ℕ → List Person → List ℕ → ℕ → ℕ → Bool
-clashBy set people cells a b = ltb a b && eqb (typeAt people a) (typeAt people b) && meets (common (cellAt cells a) (cellAt cells b)) set
+clashBy set people cells a b = ltb a b && share set people cells a b

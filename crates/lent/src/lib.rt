@@ -5,7 +5,6 @@
 use model::Command;
 use model::SchemeRead;
 use schemes::Loaded;
-use schemes::command_of;
 use schemes::empty;
 use schemes::kept;
 ghost use mathlib.Core.Path.{_≡_};
@@ -62,8 +61,7 @@ pub fn store_all(commands: &mut [Command], l: Loaded)
 {
     let mut i: usize = 0;
     while i < l.count {
-        let c = command_of(l, i);
-        commands[i] = c;
+        commands[i] = l.commands[i];
         i += 1;
     }
 }

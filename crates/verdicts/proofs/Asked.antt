@@ -13,7 +13,7 @@ use Rattle.model.specs.Codes.{spelled}
 use Rattle.model.specs.Schemes.{Scheme, noCommand, isCreate, commandIn, commandAt, schemeIsValid, schemeNumber}
 use Rattle.model.specs.Stores.{Design, placeOf, namedNumber}
 use Rattle.model.specs.Verdicts.{Question, startOfCreate, isInRange, only, createAskedNumber, designAskedNumber}
-use Rattle.model.specs.Outcomes.{Handed, designsIn, hasRooms, handedNumber, startIn, verdictAnswer, createCallNumber, designCallNumber, VerdictOfCreateOutcome, VerdictOfDesignOutcome}
+use Rattle.model.specs.Outcomes.{Handed, designsIn, hasRooms, handedNumber, startIn, verdictAnswer, createCallNumber, designCallNumber, VerdictOfCreateOutcome, VerdictOfDesignOutcome, questionFrom}
 use Rattle.laws.proofs.Tests.{passed, accepted}
 use Rattle.laws.proofs.Lists.{all-at}
 use Rattle.schemes.specs.declared.Loaded.{Loaded}
@@ -21,10 +21,10 @@ use Rattle.schemes.specs.Loads.{listed, schemeIn}
 use Rattle.schemes.proofs.Loads.{listed-length}
 use Rattle.listing.specs.Searches.{isInRow, Ready}
 use Rattle.listing.proofs.Placed.{valid-ready}
-use Rattle.verdicts.specs.Asking.{asked, Askable, Answered}
+use Rattle.verdicts.specs.Asking.{Askable, Answered}
 
 pub askable : (l : Loaded) → length (l .commands) ≡ 64 → schemeIsValid (schemeIn l) ≡ true → (t right budget : ℕ) (table : List ℕ)
-    → isInRange (schemeIn l) (asked t right budget) (length table) ≡ true → Askable l t right budget table
+    → isInRange (schemeIn l) (questionFrom t right budget) (length table) ≡ true → Askable l t right budget table
 unfolding schemeIsValid isInRange
 askable l whole valid t right budget table range =
     let v = simp passed at valid in

@@ -15,12 +15,13 @@ use Rattle.model.specs.Forms.{cellAt}
 use Rattle.model.specs.Kinds.{both, firstNotNormal}
 use Rattle.model.specs.Listing.{Row, firstDuplicate, hasDuplicate}
 use Rattle.model.specs.Verdicts.{Question, Start, rowsFrom, only, holds, reported, duplicateFound, verdictFrom, leavesRows, tableAfter}
+use Rattle.model.specs.Outcomes.{questionFrom}
 use Rattle.laws.proofs.Tests.{by-test}
 use Rattle.laws.proofs.Lists.{Sized, first-any}
 use Rattle.laws.proofs.Verdicts.{reported-zero}
 use Rattle.listing.specs.Searches.{Lists}
 use Rattle.listing.proofs.Listed.{lists-rows}
-use Rattle.verdicts.specs.Asking.{asked, lookedUp, Answered}
+use Rattle.verdicts.specs.Asking.{lookedUp, Answered}
 
 -- the place of the first that passes a test tells whether one does
 module _ {A : Type 0} (test : A → Bool) (xs : List A) (n k : ℕ) (count : n ≡ length xs) (first : k ≡ firstPlace test xs) where
@@ -34,11 +35,11 @@ module _ {A : Type 0} (test : A → Bool) (xs : List A) (n k : ℕ) (count : n �
 
 module _ (t right budget : ℕ) (rows : List Row) (n k : ℕ) (count : n ≡ length rows)
     (first : k ≡ firstPlace (λ row. has (cellAt row t) right) rows) where
-  pub none-holds : n ≤ k → record { number = 0; states = n; held = 0; state = 0; command = 0 } ≡ reported (asked t right budget) rows
+  pub none-holds : n ≤ k → record { number = 0; states = n; held = 0; state = 0; command = 0 } ≡ reported (questionFrom t right budget) rows
   unfolding reported holds
   none-holds h = rw (none-passes (λ row. has (cellAt row t) right) rows n k count first h, count)
 
-  pub one-holds : k < n → record { number = 0; states = n; held = 1; state = k; command = 0 } ≡ reported (asked t right budget) rows
+  pub one-holds : k < n → record { number = 0; states = n; held = 1; state = k; command = 0 } ≡ reported (questionFrom t right budget) rows
   unfolding reported holds
   one-holds h = rw (one-passes (λ row. has (cellAt row t) right) rows n k count first h, count, first)
 

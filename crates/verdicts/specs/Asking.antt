@@ -16,9 +16,6 @@ use Rattle.schemes.specs.declared.Loaded.{Loaded}
 use Rattle.listing.specs.declared.rows.Row.{Row}
 use Rattle.listing.specs.Searches.{Room, Ready}
 
-abbrev pub asked : ℕ → ℕ → ℕ → Question
-asked t right budget = record { type = t; right = right; budget = budget }
-
 abbrev pub startAt : ℕ → Row → Bool → Start
 startAt kind row overlap = record { kind = kind; row = row .cells; overlap = overlap }
 

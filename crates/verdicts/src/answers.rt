@@ -17,9 +17,10 @@ ghost use Rattle.model.specs.Words.{groups};
 ghost use Rattle.model.specs.Sizes.{rowWords, mostRights};
 ghost use Rattle.model.specs.Kinds.{both};
 ghost use Rattle.model.specs.Verdicts.{only, reported};
+ghost use Rattle.model.specs.Outcomes.{questionFrom};
 ghost use Rattle.schemes.specs.Loads.{listed};
 ghost use Rattle.listing.specs.Searches.{Ready};
-ghost use Rattle.verdicts.specs.Asking.{asked, startAt, lookedUp, Askable, Answered};
+ghost use Rattle.verdicts.specs.Asking.{startAt, lookedUp, Askable, Answered};
 
 // A number alone.
 pub fn only(number: u8) -> Verdict
@@ -34,28 +35,29 @@ pub fn only(number: u8) -> Verdict
     }
 }
 
-// 0: whether some of the listed rows holds the right, and the first that does.
-fn reported(table: &[u32], rows: usize, t: usize, right: usize) -> Verdict
-    requires { ⌜ (rows * rowWords ≤ length (now table)) × ((t < rowWords) × (right < mostRights)) ⌝ }
-    ensures { λ r. ⌜ ((budget : ℕ) → r ≡ reported (asked t right budget) (groups rowWords rows (now (table .entry)))) ⌝ }
+// 0: with how many states were listed, whether one of them holds the right, and the first that does.
+fn done(states: usize, held: u8, state: usize) -> Verdict
+    ensures { λ r. ⌜ r ≡ record { number = 0; states = states; held = held; state = state; command = 0 } ⌝ }
 {
-    let state = first_holding(table, rows, t, right);
-    if rows <= state {
-        return Verdict {
-            number: 0,
-            states: rows,
-            held: 0,
-            state: 0,
-            command: 0,
-        };
-    }
     Verdict {
         number: 0,
-        states: rows,
-        held: 1,
+        states,
+        held,
         state,
         command: 0,
     }
+}
+
+// 0: what the listed rows say of the right.
+fn reported(table: &[u32], rows: usize, t: usize, right: usize) -> Verdict
+    requires { ⌜ (rows * rowWords ≤ length (now table)) × ((t < rowWords) × (right < mostRights)) ⌝ }
+    ensures { λ r. ⌜ ((budget : ℕ) → r ≡ reported (questionFrom t right budget) (groups rowWords rows (now (table .entry)))) ⌝ }
+{
+    let state = first_holding(table, rows, t, right);
+    if rows <= state {
+        return done(rows, 0, 0);
+    }
+    done(rows, 1, state)
 }
 
 // 19 where one of the listed rows has a duplicate step, by the set of the rights that are both propagation and deletable; else 0.
@@ -69,7 +71,7 @@ fn looked_up(
     right: usize,
 ) -> Verdict
     requires { ⌜ ((rows * rowWords ≤ length (now table)) × ((t < rowWords) × (right < mostRights))) × (Ready l × (set ≡ both (listed l) kind)) ⌝ }
-    ensures { λ r. ⌜ ((budget : ℕ) → r ≡ lookedUp (listed l) kind (asked t right budget) (groups rowWords rows (now (table .entry)))) ⌝ }
+    ensures { λ r. ⌜ ((budget : ℕ) → r ≡ lookedUp (listed l) kind (questionFrom t right budget) (groups rowWords rows (now (table .entry)))) ⌝ }
 {
     let state = first_duplicate_row(table, rows, kind, set, l);
     if rows <= state {
@@ -96,7 +98,7 @@ pub fn verdict_from(
     table: &mut [u32],
 ) -> Verdict
     requires { ⌜ Askable l t right budget (now table) ⌝ }
-    ensures { λ r. ⌜ Answered (listed l) (startAt kind start overlap) (asked t right budget) (now (table .entry)) r (now (table .exit)) ⌝ }
+    ensures { λ r. ⌜ Answered (listed l) (startAt kind start overlap) (questionFrom t right budget) (now (table .entry)) r (now (table .exit)) ⌝ }
 {
     let sets = sets_of(l, kind);
     let first = first_not_normal(l, kind, sets.propagation);

@@ -15,17 +15,16 @@ use schemes::command_of;
 use schemes::is_valid;
 ghost use mathlib.Core.Path.{_≡_};
 ghost use Rattle.model.specs.Verdicts.{isInRange};
-ghost use Rattle.model.specs.Outcomes.{VerdictOfCreateOutcome, VerdictOfDesignOutcome};
+ghost use Rattle.model.specs.Outcomes.{VerdictOfCreateOutcome, VerdictOfDesignOutcome, questionFrom};
 ghost use Rattle.schemes.specs.Loads.{schemeIn};
 ghost use Rattle.handed.specs.Handing.{countedBy, handedBy};
-ghost use Rattle.verdicts.specs.Asking.{asked};
 
 // The most states that a question may ask for.
 const MOST_STATES: usize = 2048;
 
 // The question is in range: type, right and budget, and the table's length for it.
 fn is_in_range(l: Loaded, t: usize, right: usize, budget: usize, words: usize) -> bool
-    ensures { λ r. ⌜ r ≡ isInRange (schemeIn l) (asked t right budget) words ⌝ }
+    ensures { λ r. ⌜ r ≡ isInRange (schemeIn l) (questionFrom t right budget) words ⌝ }
 {
     if l.types <= t {
         return false;
@@ -54,7 +53,7 @@ pub fn verdict_of_create(
     budget: usize,
     table: &mut [u32],
 ) -> Verdict
-    ensures { λ r. ⌜ VerdictOfCreateOutcome (schemeIn (countedBy l types kinds rights)) command (asked t right budget) (now (table .entry)) r (now (table .exit)) ⌝ }
+    ensures { λ r. ⌜ VerdictOfCreateOutcome (schemeIn (countedBy l types kinds rights)) command (questionFrom t right budget) (now (table .entry)) r (now (table .exit)) ⌝ }
 {
     let scheme = counted(l, types, kinds, rights);
     if !is_valid(scheme) {
@@ -87,7 +86,7 @@ pub fn verdict_of_design(
     budget: usize,
     table: &mut [u32],
 ) -> Verdict
-    ensures { λ r. ⌜ VerdictOfDesignOutcome (handedBy (countedBy l types kinds rights) people (now (roster .entry)) (now (store .entry))) (now (code .entry)) (asked t right budget) (now (table .entry)) r (now (table .exit)) ⌝ }
+    ensures { λ r. ⌜ VerdictOfDesignOutcome (handedBy (countedBy l types kinds rights) people (now (roster .entry)) (now (store .entry))) (now (code .entry)) (questionFrom t right budget) (now (table .entry)) r (now (table .exit)) ⌝ }
 {
     let scheme = counted(l, types, kinds, rights);
     if !has_rooms(roster, store) {

@@ -15,9 +15,10 @@ ghost use Rattle.model.specs.Schemes.{commandIn};
 ghost use Rattle.model.specs.Rosters.{rosterOf};
 ghost use Rattle.model.specs.Stores.{noDesign, storeOf};
 ghost use Rattle.model.specs.Verdicts.{startOfCreate, startOfDesign};
+ghost use Rattle.model.specs.Outcomes.{questionFrom};
 ghost use Rattle.schemes.specs.Loads.{listed};
 ghost use Rattle.stores.specs.Standing.{Placed};
-ghost use Rattle.verdicts.specs.Asking.{asked, Askable, Answered};
+ghost use Rattle.verdicts.specs.Asking.{Askable, Answered};
 
 // From a create command: no two people overlap in it.
 pub fn from_create(
@@ -29,7 +30,7 @@ pub fn from_create(
     table: &mut [u32],
 ) -> Verdict
     requires { ⌜ (command < l .count) × Askable l t right budget (now table) ⌝ }
-    ensures { λ r. ⌜ Answered (listed l) (startOfCreate (commandIn (listed l) command)) (asked t right budget) (now (table .entry)) r (now (table .exit)) ⌝ }
+    ensures { λ r. ⌜ Answered (listed l) (startOfCreate (commandIn (listed l) command)) (questionFrom t right budget) (now (table .entry)) r (now (table .exit)) ⌝ }
 {
     let c = command_of(l, command);
     verdict_from(
@@ -57,7 +58,7 @@ pub fn from_design(
     table: &mut [u32],
 ) -> Verdict
     requires { ⌜ Placed people (now roster) (now store) place × Askable l t right budget (now table) ⌝ }
-    ensures { λ r. ⌜ Answered (listed l) (startOfDesign (listed l) (rosterOf people (now (roster .entry))) (getD (storeOf (now (store .entry))) place noDesign)) (asked t right budget) (now (table .entry)) r (now (table .exit)) ⌝ }
+    ensures { λ r. ⌜ Answered (listed l) (startOfDesign (listed l) (rosterOf people (now (roster .entry))) (getD (storeOf (now (store .entry))) place noDesign)) (questionFrom t right budget) (now (table .entry)) r (now (table .exit)) ⌝ }
 {
     let kind = kind_at(store, place);
     let set = both_of(sets_of(l, kind));

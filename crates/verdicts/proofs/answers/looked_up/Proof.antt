@@ -3,9 +3,9 @@
 use mathlib.Core.List.{[]}
 use mathlib.Core.Path.{sym, _∙_}
 use Rattle.model.specs.Words.{groups}
+use Rattle.model.specs.Outcomes.{questionFrom}
 use Rattle.laws.proofs.Lists.{length-groups, groups-at}
 use Rattle.schemes.specs.Loads.{listed}
-use Rattle.verdicts.specs.Asking.{asked}
 use Rattle.verdicts.proofs.Exits.{no-duplicate, one-duplicate}
 use borrow.Author.Needs.{needs}
 use Rattle.verdicts.proofs.answers.looked_up.Statement.{statement}
@@ -22,7 +22,7 @@ returns c budget =
     let b = c .before in
     let a = b .before .before .before .args in
     c .reported .ensures budget
-    ∙ no-duplicate (listed (a .l)) (a .kind) (a .set) (b .before .before .before .pre .1 .1) (asked (a .t) (a .right) budget) (groups 8 (a .rows) (a .table .now)) (a .rows) _
+    ∙ no-duplicate (listed (a .l)) (a .kind) (a .set) (b .before .before .before .pre .1 .1) (questionFrom (a .t) (a .right) budget) (groups 8 (a .rows) (a .table .now)) (a .rows) _
     (sym (length-groups 8 (a .rows) (a .table .now))) (b .before .first-duplicate-row .ensures) (b .if1 .taken)
 
 row-at-requires : tie.Need-row-at-requires
@@ -37,7 +37,7 @@ returns-2 c budget =
     let a = b .before .before .before .args in
     let k = b .before .first-duplicate-row .result in
     let row = groups-at 8 (a .rows) (a .table .now) [] k (b .if1 .left) ∙ sym (c .before .row-at .ensures) in
-    one-duplicate (listed (a .l)) (a .kind) (a .set) (b .before .before .before .pre .1 .1) (asked (a .t) (a .right) budget) (groups 8 (a .rows) (a .table .now)) (a .rows) k
+    one-duplicate (listed (a .l)) (a .kind) (a .set) (b .before .before .before .pre .1 .1) (questionFrom (a .t) (a .right) budget) (groups 8 (a .rows) (a .table .now)) (a .rows) k
     (sym (length-groups 8 (a .rows) (a .table .now))) (b .before .first-duplicate-row .ensures) (b .if1 .left) _ (rw row (c .first-duplicate-in .ensures))
 
 pub looked-up-spec : {M : Type 1} → statement M

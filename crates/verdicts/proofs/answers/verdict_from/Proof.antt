@@ -8,10 +8,11 @@ use borrow.Author.Needs.{needs}
 use lib.ListN.{length, length-map}
 use Rattle.model.specs.declared.Command.{Command}
 use Rattle.model.specs.Verdicts.{Question, Start}
+use Rattle.model.specs.Outcomes.{questionFrom}
 use Rattle.laws.proofs.Budgets.{listing-sized}
 use Rattle.schemes.specs.Loads.{listed}
 use Rattle.schemes.proofs.Loads.{listed-length}
-use Rattle.verdicts.specs.Asking.{asked, startAt}
+use Rattle.verdicts.specs.Asking.{startAt}
 use Rattle.verdicts.proofs.Exits.{not-normal, overlapped, cut, whole}
 use Rattle.verdicts.proofs.answers.verdict_from.Statement.{statement}
 use Rattle.verdicts.proofs.answers.verdict_from.Tie as tie
@@ -23,7 +24,7 @@ abbrev start : tie.Start → Start
 start c = startAt (c .args .kind) (c .args .start) (c .args .overlap)
 
 abbrev question : tie.Start → Question
-question c = asked (c .args .t) (c .args .right) (c .args .budget)
+question c = questionFrom (c .args .t) (c .args .right) (c .args .budget)
 
 -- as many commands are listed as were counted
 counted : (c : tie.Start) → length (commands c) ≡ c .args .l .count

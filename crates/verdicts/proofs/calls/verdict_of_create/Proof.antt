@@ -11,13 +11,12 @@ use lib.ListN.{length, length-map}
 use Rattle.model.specs.declared.Verdict.{Verdict}
 use Rattle.model.specs.Schemes.{schemeIsValid}
 use Rattle.model.specs.Verdicts.{Question, isInRange, only}
-use Rattle.model.specs.Outcomes.{createCallNumber, VerdictOfCreateOutcome}
+use Rattle.model.specs.Outcomes.{createCallNumber, VerdictOfCreateOutcome, questionFrom}
 use Rattle.schemes.specs.declared.Loaded.{Loaded}
 use Rattle.schemes.specs.Loads.{listed, schemeIn}
 use Rattle.schemes.proofs.Loads.{listed-length}
 use Rattle.listing.proofs.Placed.{valid-ready}
 use Rattle.handed.specs.Handing.{countedBy}
-use Rattle.verdicts.specs.Asking.{asked}
 use Rattle.verdicts.proofs.Asked.{askable, create-refused, create-answered, create-invalid, create-out, create-past, create-other, create-in}
 use borrow.Author.Needs.{needs}
 use Rattle.verdicts.proofs.calls.verdict_of_create.Statement.{statement}
@@ -28,7 +27,7 @@ abbrev scheme : tie.After-counted → Loaded
 scheme c = c .counted .result
 
 abbrev question : tie.After-counted → Question
-question c = let a = c .before .before .args in asked (a .t) (a .right) (a .budget)
+question c = let a = c .before .before .args in questionFrom (a .t) (a .right) (a .budget)
 
 abbrev words : tie.After-counted → List ℕ
 words c = c .before .before .args .table .now

@@ -10,12 +10,11 @@ use lib.ListN.{length, length-map}
 use Rattle.model.specs.declared.Verdict.{Verdict}
 use Rattle.model.specs.Stores.{namedNumber}
 use Rattle.model.specs.Verdicts.{Question, isInRange, only}
-use Rattle.model.specs.Outcomes.{Handed, designsIn, hasRooms, handedNumber, designCallNumber, VerdictOfDesignOutcome}
+use Rattle.model.specs.Outcomes.{Handed, designsIn, hasRooms, handedNumber, designCallNumber, VerdictOfDesignOutcome, questionFrom}
 use Rattle.schemes.specs.declared.Loaded.{Loaded}
 use Rattle.schemes.specs.Loads.{schemeIn}
 use Rattle.handed.specs.Handing.{countedBy, handedBy}
 use Rattle.handed.proofs.Numbers.{rooms, Sized, sized}
-use Rattle.verdicts.specs.Asking.{asked}
 use Rattle.verdicts.proofs.Asked.{askable, handed-valid, named-there, design-refused, design-answered, design-short, design-handed, design-out, design-named}
 use borrow.Author.Needs.{needs}
 use Rattle.verdicts.proofs.calls.verdict_of_design.Statement.{statement}
@@ -32,7 +31,7 @@ abbrev handed : tie.After-counted → Handed
 handed c = let a = args c .args in handedBy (scheme c) (a .people) (a .roster .now) (a .store .now)
 
 abbrev question : tie.After-counted → Question
-question c = let a = args c .args in asked (a .t) (a .right) (a .budget)
+question c = let a = args c .args in questionFrom (a .t) (a .right) (a .budget)
 
 abbrev code : tie.After-counted → List ℕ
 code c = args c .args .code .now
