@@ -8,7 +8,7 @@ use Rattle.model.specs.Words.{writtenOver}
 use Rattle.model.specs.Schemes.{Scheme, noCommand}
 use Rattle.model.specs.Mill.{command}
 
-abbrev pub paperScheme : List Command → Scheme
+abbrev paperScheme : List Command → Scheme
 paperScheme commands = record { types = 3; kinds = 1; rights = 11; commands = commands }
 
 -- "The same creation operation is used in all the examples": own, read, write
@@ -55,12 +55,12 @@ abbrev reject-pat : ℕ → Command
 reject-pat z = command 2 2 0 0x020 0x020 z
 
 -- Scheme 3, "Explicitly Specifying Rejection (Modifies Scheme 2)"
-unfoldable pub paper3 : List Command
-paper3 = paper2 ++ (reject-sec 0x080 ∷ reject-pat 0x200 ∷ [])
+unfoldable pub added3 : List Command
+added3 = reject-sec 0x080 ∷ reject-pat 0x200 ∷ []
 
 -- Scheme 4, "First Attempt To Allow Re-Editing (Modifies Scheme 3)"
-unfoldable pub paper4 : List Command
-paper4 = paper2 ++ (reject-sec 0x00C ∷ reject-pat 0x014 ∷ [])
+unfoldable pub added4 : List Command
+added4 = reject-sec 0x00C ∷ reject-pat 0x014 ∷ []
 
 -- Scheme 5, "Analyzable Scheme That Allows Re-Editing (Modifies Scheme 3)"
 abbrev revise-document : Command
@@ -72,14 +72,33 @@ undo-security-ok = command 3 0 0 0x041 0x040 0x008
 abbrev undo-patent-ok : Command
 undo-patent-ok = command 3 0 0 0x101 0x100 0x010
 
-unfoldable pub paper5 : List Command
-paper5 = paper2 ++ (reject-sec 0x008 ∷ reject-pat 0x010 ∷ revise-document ∷ undo-security-ok ∷ undo-patent-ok ∷ [])
+unfoldable pub added5 : List Command
+added5 = reject-sec 0x008 ∷ reject-pat 0x010 ∷ revise-document ∷ undo-security-ok ∷ undo-patent-ok ∷ []
 
 -- Scheme 6, "Revision Allowing Multiple Simultaneous Reviews (Replaces Scheme 1)"
 unfoldable pub paper6 : List Command
 paper6 =
     create ∷ seek-security ∷ seek-patent ∷ command 2 1 0 0x020 0 0x040 ∷ command 2 2 0 0x020 0 0x100 ∷ command 3 0 0 0x140 0 0x400 ∷ []
 
--- the commands in a table of twelve lines, the last ones empty where there are fewer
-unfoldable pub twelve : List Command → List Command
-twelve commands = writtenOver commands (replicate 12 noCommand)
+-- the commands in a table of seven lines, the last ones empty where there are fewer
+unfoldable pub seven : List Command → List Command
+seven commands = writtenOver commands (replicate 7 noCommand)
+
+-- the whole schemes
+abbrev pub scheme1 : Scheme
+scheme1 = paperScheme paper1
+
+abbrev pub scheme2 : Scheme
+scheme2 = paperScheme paper2
+
+abbrev pub scheme3 : Scheme
+scheme3 = paperScheme (paper2 ++ added3)
+
+abbrev pub scheme4 : Scheme
+scheme4 = paperScheme (paper2 ++ added4)
+
+abbrev pub scheme5 : Scheme
+scheme5 = paperScheme (paper2 ++ added5)
+
+abbrev pub scheme6 : Scheme
+scheme6 = paperScheme paper6

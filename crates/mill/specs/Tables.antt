@@ -1,9 +1,8 @@
 -- How a table of numbers stands for commands: a command a line, in the order of a card. Assumes nothing.
 use Prim.Native.Nat.{ℕ, _%_}
-use mathlib.Core.List.{List, [], map}
+use mathlib.Core.List.{List, map}
 use lib.ListN.{getD}
 use Rattle.model.specs.declared.Command.{Command}
-use Rattle.model.specs.Words.{numbersFrom}
 
 abbrev pub commandOf : List ℕ → Command
 commandOf line = record {
@@ -17,4 +16,4 @@ commandOf line = record {
 }
 
 abbrev pub commandsOf : List (List ℕ) → List Command
-commandsOf table = map (λ i. commandOf (getD table i [])) (numbersFrom 0 7)
+commandsOf table = map commandOf table

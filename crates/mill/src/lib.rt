@@ -48,15 +48,11 @@ fn command_of(line: [u32; 7]) -> Command
 fn commands_of(table: [[u32; 7]; 7]) -> [Command; 7]
     ensures { λ r. ⌜ r ≡ commandsOf table ⌝ }
 {
-    [
-        command_of(table[0]),
-        command_of(table[1]),
-        command_of(table[2]),
-        command_of(table[3]),
-        command_of(table[4]),
-        command_of(table[5]),
-        command_of(table[6]),
-    ]
+    let mut commands = [command_of([0u32; 7]); 7];
+    for i in 0..7 {
+        commands[i] = command_of(table[i]);
+    }
+    commands
 }
 
 // The commands of scheme A.

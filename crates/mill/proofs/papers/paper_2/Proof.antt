@@ -2,16 +2,16 @@
 -- Assumes nothing.
 use borrow.Author.Needs.{needs}
 use Rattle.model.specs.Words.{writtenOver}
-use Rattle.mill.specs.Papers.{paper2, twelve}
+use Rattle.mill.specs.Papers.{paper2, seven}
 use Rattle.mill.proofs.papers.paper_2.Statement.{statement}
 use Rattle.mill.proofs.papers.paper_2.Tie as tie
 
-commands-on-requires : tie.Need-commands-on-requires
-commands-on-requires c κs = search needs
+commands-of-requires : tie.Need-commands-of-requires
+commands-of-requires c κs = search needs
 
 returns : tie.Need-returns
-unfolding paper2 twelve writtenOver
-returns c = c .commands-on .ensures
+unfolding paper2 seven writtenOver
+returns c = c .commands-of .ensures
 
 pub paper-2-spec : {M : Type 1} → statement M
-paper-2-spec = tie.close (tie.spec commands-on-requires returns)
+paper-2-spec = tie.close (tie.spec commands-of-requires returns)
