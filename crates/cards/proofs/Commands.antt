@@ -13,8 +13,8 @@ use Rattle.model.specs.Words.{_when_else_, groups}
 use Rattle.model.specs.Schemes.{Scheme, schemeIsValid, schemeNumber}
 use Rattle.model.specs.Cards.{body, commandOf, schemeOf, isSchemeCard, schemeCardNumber}
 use Rattle.schemes.specs.declared.Loaded.{Loaded}
-use Rattle.schemes.specs.Loads.{schemeIn, unloaded, pushed, loadedFrom}
-use Rattle.schemes.proofs.Loads.{loaded-none, loaded-pushed, loaded-stands, loaded-valid}
+use Rattle.schemes.specs.Loads.{schemeIn, unloaded, loadedFrom}
+use Rattle.schemes.proofs.Loads.{pushed, loaded-none, loaded-pushed, loaded-stands, loaded-valid}
 use Rattle.laws.proofs.Tests.{passed}
 use Rattle.laws.proofs.Lists.{length-groups, groups-last}
 use Rattle.cards.proofs.Filling.{card-length}

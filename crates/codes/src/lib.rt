@@ -12,37 +12,25 @@ ghost use Prim.Native.Nat.{_+_, _≤_};
 ghost use lib.Dec.{eqb};
 ghost use lib.ListN.{length, getD, take, drop};
 ghost use Rattle.model.specs.Words.{all, digits, bigEndian};
-ghost use Rattle.model.specs.Codes.{classOf, isCodeByte, isHyphen, spelled, padded, packed, unpadded, unpacked};
+ghost use Rattle.model.specs.Codes.{isCodeByte, isHyphen, spelled, padded, packed, unpadded, unpacked};
 ghost use Rattle.codes.specs.Held.{Holds};
-
-// The class of a byte.
-pub fn class_of(byte: u8) -> u8
-    ensures { λ r. ⌜ r ≡ classOf byte ⌝ }
-{
-    CLASSES[byte as usize]
-}
-
-// A code can hold the byte.
-fn is_code_byte(byte: u8) -> bool
-    ensures { λ r. ⌜ r ≡ isCodeByte byte ⌝ }
-{
-    class_of(byte) != 0
-}
 
 // The byte is the hyphen.
 fn is_hyphen(byte: u8) -> bool
     ensures { λ r. ⌜ r ≡ isHyphen byte ⌝ }
 {
-    class_of(byte) == 3
+    byte == b'-'
 }
 
-// A code can hold every byte of the slice.
+// A code can hold every byte of the slice: its class isn't 0. The table is laid out once for all of them.
 fn all_code_bytes(code: &[u8]) -> bool
     ensures { λ r. ⌜ r ≡ all isCodeByte (now (code .entry)) ⌝ }
 {
+    let classes = CLASSES;
     let mut i = 0;
     while i < code.len() {
-        if !is_code_byte(code[i]) {
+        let byte = code[i] as usize;
+        if classes[byte] == 0 {
             return false;
         }
         i += 1;

@@ -5,7 +5,7 @@ use mathlib.Core.Path.{_≡_, sym, ap, ap₂, _∙_}
 use mathlib.Core.Bool.{true, false, not}
 use mathlib.Core.Logic.{_⊎_, by-cases, inl, inr}
 use mathlib.Core.List.{List, [], _∷_}
-use native.Mathlib.Nat.{div-one, div-div-eq-div-mul, pow-succ', zero-div, div-eq-of-lt, lt-of-lt-of-le, lt-of-le-of-lt, sub-le}
+use native.Mathlib.Nat.{div-one, div-div-eq-div-mul, pow-succ', zero-div, lt-of-lt-of-le, lt-of-le-of-lt, sub-le}
 use native.Mathlib.Decide.{ℕ-discrete}
 use native.Mathlib.Omega.{arith}
 use borrow.Author.Tests.{eqb-true, eqb-false, eq-eqb, ne-eqb, not-true, not-false, ltb-true, lt-ltb}
@@ -66,11 +66,6 @@ pub bit-of-zero : (k : ℕ) → bit 0 k ≡ 0
 unfolding bit
 bit-of-zero k = ap (λ (n : ℕ). n % 2) (zero-div (2 ^ k))
 
--- past the width of a number its bits are 0
-pub bit-past : (n k : ℕ) {s : ℕ} → s < 2 ^ n → n ≤ k → bit s k ≡ 0
-unfolding bit
-bit-past n k h l = ap (λ (n : ℕ). n % 2) (div-eq-of-lt (lt-of-lt-of-le h (pow-mono l)))
-
 -- a number is its bits
 pub same-bits-below : (n : ℕ) {a b : ℕ} → a < 2 ^ n → b < 2 ^ n → ((k : ℕ) → k < n → bit a k ≡ bit b k) → a ≡ b
 same-bits-below zero ha hb same = omega arith
@@ -108,10 +103,6 @@ pub has-true : (s k : ℕ) → has s k ≡ true → bit s k ≡ 1
 unfolding has
 has-true s k = eqb-true (bit s k) 1
 
-pub has-false : (s k : ℕ) → has s k ≡ false → bit s k ≡ 0
-unfolding has
-has-false s k h = omega (arith, bit-below-two s k, eqb-false (bit s k) 1 h)
-
 pub bit-has : (s k : ℕ) → bit s k ≡ 1 → has s k ≡ true
 unfolding has
 bit-has s k = eq-eqb (bit s k) 1
@@ -123,13 +114,6 @@ within-true x s h k = omega (arith, bit-and x s k, ap (λ (n : ℕ). bit n k) (e
 pub bits-within : (x s : ℕ) → ((k : ℕ) → bit x k ≤ bit s k) → within x s ≡ true
 unfolding within
 bits-within x s h = eq-eqb (bitAnd x s) x (same-bits (bitAnd x s) x (λ k. omega (arith, bit-and x s k, h k)))
-
--- a set that is not within another has a right more
-pub within-false : (x s : ℕ) → within x s ≡ false → (k : ℕ) × (bit x k ≡ 1) × (bit s k ≡ 0)
-unfolding within without
-within-false x s h =
-    let (k, l, b) = one-bit (without x s) (λ z. eqb-false (bitAnd x s) x h (omega (arith, and-le-l x s))) in
-    (k, omega (arith, bit-without x s k, bit-below-two x k), omega (arith, bit-without x s k, bit-below-two x k))
 
 -- two sets that meet share a right
 pub meets-true : (s t : ℕ) → meets s t ≡ true → (k : ℕ) × (bit s k ≡ 1) × (bit t k ≡ 1)
@@ -168,10 +152,6 @@ without-lt n {s} y h = lt-of-le-of-lt (without-le s y) h
 pub with-lt : (n : ℕ) {s z : ℕ} → s < 2 ^ n → z < 2 ^ n → withThose s z < 2 ^ n
 unfolding withThose
 with-lt n {s} {z} = or-lt n s z
-
-pub common-lt : (n : ℕ) {s : ℕ} (t : ℕ) → s < 2 ^ n → common s t < 2 ^ n
-unfolding common
-common-lt n {s} t h = lt-of-le-of-lt (and-le-l s t) h
 
 -- ---- sets put together
 

@@ -165,9 +165,6 @@ packed-unpacked w f =
       c = word-digits (w .c) (ap (λ (l : List ℕ). take 4 (drop 8 l)) row ∙ r) (f .2) i;
     }
 
-pub packed-inj : (a b : List ℕ) → spelled a ≡ true → spelled b ≡ true → packed a ≡ packed b → a ≡ b
-packed-inj a b ha hb e = sym (unpacked-packed a ha) ∙ ap unpacked e ∙ unpacked-packed b hb
-
 pub unpacked-inj : (v w : Code) → WordsFit v → WordsFit w → unpacked v ≡ unpacked w → v ≡ w
 unpacked-inj v w fv fw e = sym (packed-unpacked v fv) ∙ ap packed e ∙ packed-unpacked w fw
 

@@ -1,7 +1,7 @@
 -- Laws of numbers by their digits, in any base and at any width: there and back, by induction on the digits, of which the highest is split off.
 -- Assumes nothing.
 use Prim.Native.Nat.{ℕ, zero, suc, _+_, _-_, _*_, _/_, _%_, _^_, _≤_, _<_}
-use mathlib.Core.Path.{_≡_, refl, sym, ap, ap₂, _∙_}
+use mathlib.Core.Path.{_≡_, refl, sym, ap, _∙_}
 use mathlib.Core.List.{List, [], _∷_, _++_}
 use native.Mathlib.Nat.{zero-mul, zero-add, one-le-pow, pow-zero, pow-succ', mod-lt, mod-one, mod-eq-of-lt, mul-assoc, div-one, div-div-eq-div-mul, mul-add-div-right, mul-add-mod-self-right, suc-sub-suc, sub-zero}
 use native.Mathlib.Numerals.{add-one, add-two, add-three}
@@ -78,10 +78,6 @@ digits-number base (d ∷ ds) h =
     rw (digits-div d (number-lt base ds rest), mod-eq-of-lt first)
     (rw (digits-above base (omega arith) (length ds) d (numberOf base ds), digits-number base ds rest) refl)
 
--- two rows of as many digits that write one number are the same
-pub number-inj : (base : ℕ) (ds es : List ℕ) → length ds ≡ length es → Digits base ds → Digits base es → numberOf base ds ≡ numberOf base es → ds ≡ es
-number-inj base ds es l hd he e = sym (digits-number base ds hd) ∙ ap₂ (digits base) l e ∙ digits-number base es he
-
 -- ---- the number that digits write, from the left
 
 pub number-append : (base : ℕ) (ds es : List ℕ) → numberOf base (ds ++ es) ≡ numberOf base ds * base ^ length es + numberOf base es
@@ -89,16 +85,10 @@ number-append base [] es = rw (zero-mul (base ^ length es), zero-add (numberOf b
 number-append base (d ∷ ds) es =
     rw (length-append ds es, pow-add base (length ds) (length es), number-append base ds es) (omega arith)
 
-pub number-snoc : (base : ℕ) (ds : List ℕ) (d : ℕ) → numberOf base (ds ++ d ∷ []) ≡ numberOf base ds * base + d
-number-snoc base ds d = number-append base ds (d ∷ []) ∙ rw (pow-succ' base 0, pow-zero base) (omega arith)
-
 -- ---- bytes
 
 pub four-bytes : (a b c d : ℕ) → bigEndian (a ∷ b ∷ c ∷ d ∷ []) ≡ ((a * 256 + b) * 256 + c) * 256 + d
 four-bytes a b c d = omega arith
-
-pub bytes-of-four : (n : ℕ) → digits 256 4 n ≡ n / 16777216 % 256 ∷ n / 65536 % 256 ∷ n / 256 % 256 ∷ n % 256 ∷ []
-bytes-of-four n = rw (div-one n) refl
 
 -- two bytes and four at a place of a row
 pub two-at : (bytes : List ℕ) (i : ℕ) → i + 2 ≤ length bytes → bigEndian (take 2 (drop i bytes)) ≡ getD bytes i 0 * 256 + getD bytes (i + 1) 0

@@ -1,12 +1,12 @@
 -- What the three forms do to a list of cells, by one cell and by two, what they leave alone and how large they let a cell grow: each is one store or
 -- two into the list. Assumes nothing.
 use Prim.Native.Nat.{ℕ, zero, suc, _^_, _<_}
-use mathlib.Core.Path.{_≡_, refl, sym, _∙_}
+use mathlib.Core.Path.{_≡_, refl, _∙_}
 use mathlib.Core.Logic.{_≢_}
 use mathlib.Core.List.{List}
-use lib.ListN.{length, getD, set, replicate, length-set, length-replicate}
+use lib.ListN.{length, getD, replicate, length-set, length-replicate}
 use lib.Pow.{pow-pos}
-use lib.Seq.{getD-set-same, getD-set-other, set-set}
+use lib.Seq.{getD-set-same, getD-set-other}
 use Rattle.model.specs.declared.Command.{Command}
 use Rattle.model.specs.Rights.{without, withThose}
 use Rattle.model.specs.Forms.{cellAt, lose, gain, act, created}
@@ -29,19 +29,6 @@ module _ (c : Command) (a d : ℕ) (cells : List ℕ) where
   act-below n z h =
       let lost = every-set (λ v. v < 2 ^ n) cells 0 a (without (cellAt cells a) (c .y)) h (without-lt n (c .y) (h a)) in
       every-set (λ v. v < 2 ^ n) (lose c a cells) 0 d (withThose (cellAt (lose c a cells) d) (c .z)) lost (with-lt n (lost d) z)
-
--- an internal, or a grant to oneself: one cell, which loses first and then gains
-pub act-one : (c : Command) (a : ℕ) (cells : List ℕ) → a < length cells
-    → act c a a cells ≡ set cells a (withThose (without (cellAt cells a) (c .y)) (c .z))
-unfolding act gain lose
-act-one c a cells h = simp (getD-set-same, set-set)
-
--- a grant to another: two cells, and what one loses is not seen at the other
-pub act-two : (c : Command) (a d : ℕ) (cells : List ℕ) → a ≢ d
-    → act c a d cells
-    ≡ set (set cells a (without (cellAt cells a) (c .y))) d (withThose (cellAt cells d) (c .z))
-unfolding act gain lose
-act-two c a d cells ne = rw (getD-set-other cells a d _ 0 (λ e. ne (sym e)))
 
 pub getD-copies : {A : Type 0} (n i : ℕ) (a : A) → getD (replicate n a) i a ≡ a
 getD-copies zero i a = refl

@@ -1,12 +1,11 @@
 -- Of a scheme that is not valid, only that matters: a call's outcome is the same whatever its commands are. So a scheme that was loaded from a list that
 -- is too long stands for the list. Assumes nothing.
-use Prim.Native.Nat.{ℕ, suc}
+use Prim.Native.Nat.{ℕ}
 use mathlib.Core.Bool.{Bool, true, false, not, _&&_}
 use mathlib.Core.List.{List}
 use mathlib.Core.Logic.{_⊎_, ⊎-elim}
-use mathlib.Core.Path.{_≡_, refl, sym, ap, subst, _∙_}
+use mathlib.Core.Path.{_≡_, refl, sym, subst, _∙_}
 use lib.Dec.{eqb}
-use lib.ListN.{length}
 use Rattle.model.specs.declared.RosterRead.{RosterRead}
 use Rattle.model.specs.declared.BatchRun.{BatchRun}
 use Rattle.model.specs.declared.MayUse.{MayUse}
@@ -16,9 +15,9 @@ use Rattle.model.specs.Words.{_when_else_, _then_}
 use Rattle.model.specs.Sizes.{mostRequests, rosterRoom, accessRoom}
 use Rattle.model.specs.Schemes.{Scheme, schemeNumber}
 use Rattle.model.specs.Requests.{Request}
-use Rattle.model.specs.Cards.{isRosterCard, rosterCardNumber, batchCardNumber, isBatchCard}
+use Rattle.model.specs.Cards.{isRosterCard, rosterCardNumber, batchCardNumber}
 use Rattle.model.specs.Verdicts.{Question}
-use Rattle.model.specs.Outcomes.{onDone, hasRoom, readRosterNumber, rosterRead, ReadRosterOutcome, Handed, handedFrom, hasRooms, handedNumber, requestCallNumber, RequestOutcome, runBatchNumber, batchRun, RunBatchOutcome, mayUseCallNumber, mayUseAnswer, MayUseOutcome, accessListNumber, accessListAnswer, AccessListOutcome, createCallNumber, designCallNumber, verdictAnswer, VerdictOfCreateOutcome, VerdictOfDesignOutcome}
+use Rattle.model.specs.Outcomes.{onDone, hasRoom, readRosterNumber, rosterRead, ReadRosterOutcome, handedFrom, hasRooms, handedNumber, requestCallNumber, RequestOutcome, runBatchNumber, batchRun, RunBatchOutcome, mayUseCallNumber, mayUseAnswer, MayUseOutcome, accessListNumber, accessListAnswer, AccessListOutcome, createCallNumber, designCallNumber, verdictAnswer, VerdictOfCreateOutcome, VerdictOfDesignOutcome}
 use Rattle.laws.proofs.Tests.{by-test}
 
 -- two schemes are one for every call: they are the same, or both are refused

@@ -4,23 +4,20 @@ use Prim.Native.Nat.{ℕ, _≤_}
 use mathlib.Core.Path.{_≡_, _∙_}
 use mathlib.Core.Bool.{true}
 use mathlib.Core.List.{List, [], _∷_, _++_}
-use native.Mathlib.Nat.{lt-of-lt-of-le}
 use native.Mathlib.Omega.{arith}
 use lib.ListN.{length, getD, set, length-map}
-use lib.Pow.{pow-mono}
 use Rattle.model.specs.Words.{groups}
 use Rattle.model.specs.Sizes.{storeRoom}
-use Rattle.model.specs.Schemes.{Scheme, commandAt, schemeNumber}
+use Rattle.model.specs.Schemes.{Scheme, commandAt}
 use Rattle.model.specs.Rosters.{Person, personOf, rosterOf, outOfRange, rosterNumber}
 use Rattle.model.specs.Forms.{act}
 use Rattle.model.specs.Stores.{Design, noDesign, placeOf, designAt, storeOf, storeWords, storeNumber}
 use Rattle.model.specs.Requests.{Request, newDesign, actedOn, requestNumber, requested, batchNumbers, batched}
 use Rattle.model.specs.Outcomes.{Handed, peopleIn, designsIn, hasRooms, handedNumber}
 use Rattle.laws.proofs.Tests.{passed, accepted}
-use Rattle.laws.proofs.Lists.{Each, each-snoc, length-groups}
-use Rattle.laws.proofs.Codes.{packed-fits}
+use Rattle.laws.proofs.Lists.{each-snoc, length-groups}
 use Rattle.laws.proofs.Forms.{act-length, act-other, act-below, created-length, created-other, created-below}
-use Rattle.laws.proofs.Stores.{Words, Lent, store-length, Celled, Whole, room-celled, store-of-words, written-twice, store-words-length, store-count, Fitting, words-kept, cells-celled}
+use Rattle.laws.proofs.Stores.{Words, Lent, store-length, Celled, Whole, room-celled, store-of-words, written-twice, cells-celled}
 use Rattle.laws.proofs.Checks.{ValidScheme, valid-scheme, Checked, checked, checked-zero, checked-more, checked-anew}
 use Rattle.laws.proofs.Requests.{Creates, Acts, by-request, requested-grows, batched-snoc, numbers-snoc, by-requests}
 
@@ -83,42 +80,10 @@ module _ (s : Scheme) (people : List Person) (designs : List Design) where
   pub good-zero : Good s people designs → storeNumber (s .kinds) (s .rights) (length people) designs ≡ 0
   good-zero g = checked-zero (s .kinds) (s .rights) (length people) designs (g .check)
 
-module _ (s : Scheme) (people : List Person) (valid : schemeNumber s ≡ 0) (designs : List Design)
-    (check : storeNumber (s .kinds) (s .rights) (length people) designs ≡ 0) (celled : Celled designs) where
-  pub kept-requested : (q : Request)
-      → (storeNumber (s .kinds) (s .rights) (length people) (requested s people designs q) ≡ 0) × Celled (requested s people designs q)
-  kept-requested q =
-      let g = good-requested s people (valid-scheme s valid) designs (good s people designs check celled) q in
-      (good-zero s people (requested s people designs q) g, g .celled)
-
-  pub kept-batched : (qs : List Request)
-      → (storeNumber (s .kinds) (s .rights) (length people) (batched s people designs qs) ≡ 0) × Celled (batched s people designs qs)
-  kept-batched qs =
-      let g = good-batched s people (valid-scheme s valid) designs (good s people designs check celled) qs in
-      (good-zero s people (batched s people designs qs) g, g .celled)
-
 -- ---- what lent words mean after a request, and after a batch
 
 pub whole : (s : Scheme) (people : List Person) (designs : List Design) → Good s people designs → Whole designs
 whole s people designs g = record { few = g .check .few; celled = g .celled; spelt = g .check .spelt }
-
-pub good-fitting : (s : Scheme) (people : List Person) (designs : List Design) → ValidScheme s → Good s people designs → Each Fitting designs noDesign
-good-fitting s people designs valid g i l =
-    let f = g .check .fit i l in
-    record {
-      kind-fits = omega (arith, f .kind-below, valid .kinds-are);
-      code-fits = packed-fits (getD designs i noDesign .code) (g .check .spelt i l);
-      cells-fit = λ p. lt-of-lt-of-le (f .cell-below p) (pow-mono (valid .rights-are .1));
-    }
-
--- the lent words with a good store written into them
-pub lent-kept : (s : Scheme) (people : List Person) (designs : List Design) (w : List ℕ) → ValidScheme s → Good s people designs → Lent w
-    → Lent (storeWords designs w)
-lent-kept s people designs w valid g lent = record {
-  fit = words-kept designs w (g .celled) (g .check .few) (good-fitting s people designs valid g) (lent .fit);
-  few = rw (store-count designs w) (g .check .few);
-  room = rw (store-words-length designs w (g .celled) (g .check .few) (lent .room)) (lent .room);
-}
 
 module _ (s : Scheme) (people : List Person) (valid : ValidScheme s) (w : List ℕ) (g : Good s people (storeOf w)) where
   pub meaning-requested : (q : Request) → storeOf (storeWords (requested s people (storeOf w) q) w) ≡ requested s people (storeOf w) q

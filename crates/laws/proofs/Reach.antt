@@ -9,7 +9,7 @@ use native.Mathlib.Omega.{arith}
 use lib.Dec.{ltb}
 use lib.ListN.{length, getD, take, length-append}
 use lib.Seq.{getD-take, length-take-le, getD-append-seam}
-use borrow.Author.Tests.{ltb-true, ltb-false, lt-ltb, le-ltb}
+use borrow.Author.Tests.{ltb-true, ltb-false}
 use Rattle.model.specs.declared.Command.{Command}
 use Rattle.model.specs.Words.{any, same, allDiffer}
 use Rattle.model.specs.Schemes.{commandIn}
@@ -99,16 +99,6 @@ module _ (commands : List Command) (kind : ℕ) where
       rw here (expanded-among kind commands (getD rows at []) rows k b (rw here at f)))
 
   -- ---- a listing goes on with the next state, or is done
-
-  pub listed-next : (n at : ℕ) (rows : List Row) → at < length rows
-      → listedFrom commands kind (suc n) at rows ≡ listedFrom commands kind n (suc at) (expanded kind commands (getD rows at []) rows)
-  unfolding listedFrom
-  listed-next n at rows l = rw (lt-ltb at (length rows) l)
-
-  pub listed-done : (n at : ℕ) (rows : List Row) → length rows ≤ at → listedFrom commands kind n at rows ≡ rows
-  unfolding listedFrom
-  listed-done zero at rows l = refl
-  listed-done (suc n) at rows l = rw (le-ltb at (length rows) l)
 
   -- what every expansion keeps, a listing keeps
   listed-keeps : (P : ℕ → List Row → Type 0)

@@ -168,7 +168,3 @@ module _ (s : Scheme) (people : List Person) where
   unfolding batched
   by-requests P step designs [] h = h
   by-requests P step designs (q ∷ qs) h = by-requests P step (requested s people designs q) qs (step designs q h)
-
-  pub batched-grows : (designs : List Design) (qs : List Request) → length designs ≤ length (batched s people designs qs)
-  batched-grows designs qs =
-      by-requests (λ after. length designs ≤ length after) (λ between q h. omega (arith, requested-grows s people between q)) designs qs (omega arith)

@@ -2,21 +2,21 @@
 -- Assumes nothing.
 use Prim.Native.Nat.{ℕ, _+_, _≤_, _<_}
 use mathlib.Core.Path.{_≡_, refl, sym, ap, _∙_}
-use mathlib.Core.Bool.{Bool, true}
+use mathlib.Core.Bool.{Bool}
 use mathlib.Core.Logic.{_≢_, _⊎_}
 use mathlib.Core.List.{List, [], _∷_}
 use native.Mathlib.Nat.{add-zero}
 use native.Mathlib.Omega.{arith}
-use lib.ListN.{length, getD, set, take, length-append, length-set}
-use lib.Seq.{take-append-seam, getD-append-seam, getD-set-same, getD-set-other, paste}
+use lib.ListN.{length, getD, set, length-append, length-set}
+use lib.Seq.{getD-append-seam, getD-set-same, getD-set-other, paste}
 use Rattle.model.specs.Words.{same}
 use Rattle.model.specs.Rights.{without, withThose}
 use Rattle.model.specs.Schemes.{Scheme, commandAt}
 use Rattle.model.specs.Rosters.{Person}
 use Rattle.model.specs.Forms.{cellAt, lose, gain, act}
-use Rattle.model.specs.Stores.{Design, noDesign, placeOf, exists, designAt, wordsOfDesign, storeOf, storeWords}
+use Rattle.model.specs.Stores.{Design, noDesign, placeOf, designAt, wordsOfDesign, storeOf, storeWords}
 use Rattle.model.specs.Requests.{Request, requestNumber, newDesign, actedOn, requested}
-use Rattle.laws.proofs.Lists.{first-any, first-append-some, first-append-none, first-set, same-refl, paste-outside}
+use Rattle.laws.proofs.Lists.{first-any, first-append-none, first-set, same-refl, paste-outside}
 use Rattle.laws.proofs.Forms.{act-other, created-length}
 use Rattle.laws.proofs.Stores.{Lent, recordPlace, cellPlace, store-length, cell-at, words-of-store, cell-set-at, cells-written, create-written}
 use Rattle.laws.proofs.Requests.{Creates, Acts, requested-refused, requested-create, requested-act}
@@ -32,21 +32,6 @@ module _ (s : Scheme) (people : List Person) (designs : List Design) (q : Reques
     pub acted-count : length (requested s people designs q) ≡ length designs
     acted-count = rw (requested-act s people designs q k) (length-set designs (placeOf (q .code) designs) _)
 
-    pub untouched-design : (i : ℕ) → i ≢ placeOf (q .code) designs → getD (requested s people designs q) i noDesign ≡ getD designs i noDesign
-    untouched-design i other = rw (requested-act s people designs q k) (getD-set-other designs (placeOf (q .code) designs) i _ noDesign other)
-
-    pub untouched-kind : getD (requested s people designs q) (placeOf (q .code) designs) noDesign .kind ≡ designAt (q .code) designs .kind
-    untouched-kind = ap (λ (d : Design). d .kind) acted-at
-
-    pub untouched-code : getD (requested s people designs q) (placeOf (q .code) designs) noDesign .code ≡ designAt (q .code) designs .code
-    untouched-code = ap (λ (d : Design). d .code) acted-at
-
-    pub untouched-cell : (p : ℕ) → p ≢ q .source → p ≢ q .destination
-        → getD (getD (requested s people designs q) (placeOf (q .code) designs) noDesign .cells) p 0 ≡ getD (designAt (q .code) designs .cells) p 0
-    untouched-cell p ns nd =
-        ap (λ (d : Design). getD (d .cells) p 0) acted-at
-        ∙ act-other (commandAt s (q .command)) (q .source) (q .destination) (designAt (q .code) designs .cells) p ns nd
-
   module _ (k : Creates s people designs q) where
     pub created-count : length (requested s people designs q) ≡ length designs + 1
     created-count = rw (requested-create s people designs q k) (length-append designs (_ ∷ []))
@@ -54,21 +39,12 @@ module _ (s : Scheme) (people : List Person) (designs : List Design) (q : Reques
     pub created-at : getD (requested s people designs q) (length designs) noDesign ≡ newDesign (commandAt s (q .command)) q
     created-at = rw (requested-create s people designs q k) (getD-append-seam designs _ [] noDesign)
 
-    pub untouched-designs : take (length designs) (requested s people designs q) ≡ designs
-    untouched-designs = rw (requested-create s people designs q k) (take-append-seam designs _)
-
 -- ---- where a code is found afterwards
 
 module _ (s : Scheme) (people : List Person) (designs : List Design) (q : Request) where
   pub found-after-act : Acts s people designs q → (code : List ℕ) → placeOf code (requested s people designs q) ≡ placeOf code designs
   found-after-act k code =
       rw (requested-act s people designs q k) (first-set (λ d. same (d .code) code) designs (placeOf (q .code) designs) _ noDesign refl)
-
-  pub found-after-create : Creates s people designs q → (code : List ℕ) → exists code designs ≡ true
-      → placeOf code (requested s people designs q) ≡ placeOf code designs
-  found-after-create k code there =
-      let named : Design → Bool = λ d. same (d .code) code in
-      rw (requested-create s people designs q k) (first-append-some named designs _ (sym (first-any named designs) ∙ there))
 
   pub found-new : Creates s people designs q → placeOf (q .code) (requested s people designs q) ≡ length designs
   found-new k =

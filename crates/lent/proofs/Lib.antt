@@ -5,6 +5,4 @@ pub mod Arrays
 pub mod Rows
 pub mod Pars
 pub mod Doors
-pub mod Lends
-pub mod Lents
 pub mod Fills

@@ -6,43 +6,18 @@ use mathlib.Core.Path.{_≡_, refl, sym, ap, _∙_}
 use native.Mathlib.Numerals.{add-one}
 use native.Mathlib.Omega.{arith}
 use lib.ListN.{length, take, set, replicate, length-take}
-use lib.Seq.{take-suc, length-take-le, getD-take, take-take, take-all}
+use lib.Seq.{take-suc, length-take-le, take-take, take-all}
 use Rattle.model.specs.declared.Command.{Command}
 use Rattle.model.specs.Words.{writtenOver}
-use Rattle.model.specs.Schemes.{Scheme, noCommand, commandIn}
-use Rattle.laws.proofs.Lists.{length-written, written-inside, written-snoc}
-use Rattle.schemes.specs.Loads.{listed, loadedFrom}
-use Rattle.schemes.proofs.Loads.{loaded-stands}
+use Rattle.model.specs.Schemes.{noCommand, commandIn}
+use Rattle.laws.proofs.Lists.{length-written, written-snoc}
+use Rattle.schemes.specs.Loads.{loadedFrom}
 use Rattle.lent.specs.Loads.{loadedOf}
 
 module _ (cs : List Command) where
-  pub loaded-types : loadedOf cs .types ≡ 0
-  unfolding loadedOf loadedFrom
-  loaded-types = refl
-
-  pub loaded-kinds : loadedOf cs .kinds ≡ 0
-  unfolding loadedOf loadedFrom
-  loaded-kinds = refl
-
-  pub loaded-rights : loadedOf cs .rights ≡ 0
-  unfolding loadedOf loadedFrom
-  loaded-rights = refl
-
   pub loaded-count : loadedOf cs .count ≡ length cs
   unfolding loadedOf loadedFrom
   loaded-count = refl
-
-  pub loaded-commands : loadedOf cs .commands ≡ writtenOver (take 64 cs) (replicate 64 noCommand)
-  unfolding loadedOf loadedFrom
-  loaded-commands = refl
-
-  pub loaded-at : (i : ℕ) → i < length cs → i < 64 → commandIn (loadedOf cs .commands) i ≡ commandIn cs i
-  loaded-at i l k =
-      rw loaded-commands (written-inside (take 64 cs) (replicate 64 noCommand) noCommand i (omega (arith, length-take 64 cs))) ∙ getD-take 64 cs i noCommand k
-
-  pub loaded-listed : length cs ≤ 64 → listed (loadedOf cs) ≡ cs
-  unfolding loadedOf
-  loaded-listed few = ap (λ (s : Scheme). s .commands) (loaded-stands (record { types = 0; kinds = 0; rights = 0; commands = cs }) few)
 
   -- with its three counts put in, it is the whole scheme
   pub loaded-scheme : (types kinds rights : ℕ)

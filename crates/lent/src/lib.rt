@@ -1,42 +1,16 @@
-// The lent list of a scheme's commands: the few functions that read or write it. Each is proved by hand, since the borrow checker
+// The lent list of a scheme's commands: the two functions that read and write it. Each is proved by hand, since the borrow checker
 // covers no slice of structs. A public call loads the list into a scheme by value and goes on with that, and its proof is one line
-// over proofs/Doors.antt; the call that fills the list is over proofs/Fills.antt, and a way in for callers that have the commands by
-// value, as programs do, over proofs/Lents.antt. Inner functions: none is offered outside.
+// over proofs/Doors.antt; the call that fills the list is over proofs/Fills.antt. Inner functions: none is offered outside.
 use model::Command;
 use model::SchemeRead;
 use schemes::Loaded;
 use schemes::empty;
 use schemes::kept;
 ghost use mathlib.Core.Path.{_≡_};
-ghost use Prim.Native.Nat.{_<_, _≤_};
-ghost use lib.ListN.{length, take, set};
+ghost use Prim.Native.Nat.{_≤_};
+ghost use lib.ListN.{length, take};
 ghost use Rattle.model.specs.Words.{writtenOver};
-ghost use Rattle.model.specs.Schemes.{commandIn};
 ghost use Rattle.lent.specs.Loads.{loadedOf};
-
-// How many commands are lent.
-pub fn count(commands: &[Command]) -> usize
-    ensures { λ r. ⌜ r ≡ length (now (commands .entry)) ⌝ }
-{
-    commands.len()
-}
-
-// The command at a place of the list.
-pub fn command_at(commands: &[Command], i: usize) -> Command
-    requires { ⌜ i < length (now commands) ⌝ }
-    ensures { λ r. ⌜ r ≡ commandIn (now (commands .entry)) i ⌝ }
-{
-    let c = commands[i];
-    c
-}
-
-// The command is written at a place of the list.
-pub fn store_at(commands: &mut [Command], i: usize, c: Command)
-    requires { ⌜ i < length (now commands) ⌝ }
-    ensures { λ _. ⌜ now (commands .exit) ≡ set (now (commands .entry)) i c ⌝ }
-{
-    commands[i] = c;
-}
 
 // The commands as a scheme by value whose three counts are still 0: the first 64 are kept, and all are counted.
 pub fn load(commands: &[Command]) -> Loaded

@@ -41,12 +41,6 @@ module _ {more : List ℕ} {at : ℕ} {text : List ℕ} {end : ℕ} {next : List
   pub put-said : {says : List ℕ} → more ≡ says → Put says at text end next
   put-said e = rw (← e) p
 
-  -- what stands before the place and what was put, over the text as it was found
-  pub put-over : (done old : List ℕ) → text ≡ writtenOver done old → length done ≡ at → next ≡ writtenOver (done ++ more) old
-  put-over done old e n =
-      let t : take at text ≡ done = rw (← n, e) (take-written done old) in
-      p .wrote ∙ rw (t, e) (written-again (done ++ more) done old (omega (arith, length-append done more)))
-
 -- a line, of which it is known what it says, may be put where there is room for that
 pub line-room : {l : Line} {says : List ℕ} → Says l says → (at : ℕ) (text : List ℕ) → at + length says ≤ length text
     → Fits l 0 × (at + l .len ≤ length text)

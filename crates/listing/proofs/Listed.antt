@@ -5,14 +5,11 @@ use mathlib.Core.Path.{_≡_, sym, ap, _∙_}
 use mathlib.Core.Bool.{true, false}
 use mathlib.Core.List.{List, [], _∷_, _++_, append-nil}
 use native.Mathlib.Omega.{arith}
-use borrow.Author.Tests.{ltb-true, lt-ltb}
-use lib.Dec.{ltb}
 use lib.ListN.{length, take, drop, length-append}
 use lib.Seq.{take-all, take-append-le, take-append-add}
 use Rattle.model.specs.declared.Command.{Command}
 use Rattle.model.specs.Words.{any, same, groups, joined, writtenOver}
 use Rattle.model.specs.Listing.{Row, fires, moved, put, tried}
-use Rattle.laws.proofs.Tests.{same-test}
 use Rattle.laws.proofs.Lists.{Sized, length-groups, joined-groups, joined-append, groups-joined, written-own, written-again}
 use Rattle.laws.proofs.Listing.{Grown, grown-longer}
 use Rattle.laws.proofs.Budgets.{grown-first}
@@ -105,14 +102,3 @@ module _ (budget : ℕ) (old : List ℕ) where
   lists-cut {rows} {more} has cut g =
       let first = grown-first g budget (omega arith) in
       record { counted = omega (arith, grown-longer g); written = has .written ∙ ap (λ (r : List Row). writtenOver (joined r) old) (sym first) }
-
-  -- the count says exactly whether the rows are more than the budget
-  pub lists-over : {rows : List Row} {n : ℕ} {table : List ℕ} → Lists rows budget old n table → ltb budget n ≡ ltb budget (length rows)
-  lists-over {rows} {n} has =
-      same-test (ltb budget n) (ltb budget (length rows))
-      (λ p. lt-ltb budget (length rows) (omega (arith, ltb-true budget n p)))
-      (λ p. lt-ltb budget n (omega (arith, ltb-true budget (length rows) p)))
-
-  -- and where they are not, it is their number
-  pub lists-count : {rows : List Row} {n : ℕ} {table : List ℕ} → Lists rows budget old n table → length rows ≤ budget → n ≡ length rows
-  lists-count has few = omega arith

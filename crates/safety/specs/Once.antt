@@ -4,13 +4,6 @@ use Prim.Native.Nat.{ℕ}
 use mathlib.Core.List.{List}
 use mathlib.Core.Path.{_≡_}
 use Rattle.model.specs.declared.Command.{Command}
-use Rattle.model.specs.declared.SchemeRead.{SchemeRead}
-use Rattle.model.specs.declared.RosterRead.{RosterRead}
-use Rattle.model.specs.declared.BatchRun.{BatchRun}
-use Rattle.model.specs.declared.MayUse.{MayUse}
-use Rattle.model.specs.declared.AccessList.{AccessList}
-use Rattle.model.specs.declared.Verdict.{Verdict}
-use Rattle.model.specs.declared.Text.{Text}
 use Rattle.model.specs.Schemes.{Scheme}
 use Rattle.model.specs.Requests.{Request}
 use Rattle.model.specs.Verdicts.{Question}

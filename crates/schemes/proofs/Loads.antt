@@ -3,19 +3,18 @@
 use Prim.Native.Nat.{ℕ, _≤_, _<_, _-_, _+_}
 use mathlib.Core.List.{List, [], _∷_, _++_, append-nil}
 use mathlib.Core.Path.{_≡_, refl, sym, ap, _∙_}
-use native.Mathlib.Numerals.{add-one}
 use native.Mathlib.Omega.{arith}
 use borrow.Author.Tests.{leb-true, leb-false}
 use lib.Dec.{leb}
-use lib.ListN.{length, getD, take, set, replicate, length-append, length-take, length-replicate, length-set, List·getD-append}
-use lib.Seq.{getD-take, take-suc-set, take-all, take-append-le, set-out}
+use lib.ListN.{length, getD, take, set, replicate, length-append, length-take, length-replicate, List·getD-append}
+use lib.Seq.{getD-take, take-all, take-append-le, set-out}
 use Rattle.model.specs.declared.Command.{Command}
 use Rattle.model.specs.Words.{writtenOver}
 use Rattle.model.specs.Schemes.{Scheme, noCommand, schemeIsValid}
 use Rattle.laws.proofs.Tests.{by-test}
 use Rattle.laws.proofs.Lists.{length-written, take-written, written-snoc}
 use Rattle.schemes.specs.declared.Loaded.{Loaded}
-use Rattle.schemes.specs.Loads.{listed, schemeIn, unloaded, pushed, loadedFrom}
+use Rattle.schemes.specs.Loads.{listed, schemeIn, unloaded, loadedFrom}
 use Rattle.schemes.proofs.Rules.{long}
 
 module _ (l : Loaded) (whole : length (l .commands) ≡ 64) where
@@ -40,25 +39,9 @@ module _ (l : Loaded) (whole : length (l .commands) ≡ 64) where
 
 -- ---- loading
 
-pub listed-unloaded : (types kinds rights : ℕ) → listed (unloaded types kinds rights) ≡ []
-unfolding listed unloaded
-listed-unloaded types kinds rights = refl
-
-module _ (l : Loaded) (c : Command) (whole : length (l .commands) ≡ 64) where
-  pub pushed-whole : length (pushed l c .commands) ≡ 64
-  unfolding pushed
-  pushed-whole = length-set (l .commands) (l .count) c ∙ whole
-
-  -- past the 64th only the count goes on, and with it the number of commands that are listed (`listed-length`)
-  pub pushed-count : pushed l c .count ≡ l .count + 1
-  unfolding pushed
-  pushed-count = refl
-
-  pub listed-pushed : l .count < 64 → listed (pushed l c) ≡ listed l ++ (c ∷ [])
-  unfolding pushed
-  listed-pushed h =
-      listed-kept (pushed l c) pushed-whole (omega arith)
-      ∙ rw (add-one (l .count), take-suc-set (l .commands) (l .count) c (omega arith), listed-kept l whole (omega arith)) refl
+-- one command more, kept in its place; past the last place it is counted and not kept
+unfoldable pub pushed : Loaded → Command → Loaded
+pushed l c = record { types = l .types; kinds = l .kinds; rights = l .rights; count = l .count + 1; commands = set (l .commands) (l .count) c }
 
 -- ---- a whole scheme, loaded
 

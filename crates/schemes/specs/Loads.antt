@@ -1,8 +1,8 @@
--- The scheme that a loaded one stands for, and how one is loaded, command by command.
+-- The scheme that a loaded one stands for, and what a whole scheme is, loaded.
 -- Assumes nothing.
 use Prim.Native.Nat.{ℕ, _+_, _-_}
 use mathlib.Core.List.{List, _++_}
-use lib.ListN.{length, take, set, replicate}
+use lib.ListN.{length, take, replicate}
 use Rattle.model.specs.declared.Command.{Command}
 use Rattle.model.specs.Words.{writtenOver}
 use Rattle.model.specs.Sizes.{mostCommands}
@@ -19,10 +19,6 @@ schemeIn l = record { types = l .types; kinds = l .kinds; rights = l .rights; co
 -- a scheme with these counts and no command yet
 unfoldable pub unloaded : ℕ → ℕ → ℕ → Loaded
 unloaded types kinds rights = record { types = types; kinds = kinds; rights = rights; count = 0; commands = replicate mostCommands noCommand }
-
--- one command more, kept in its place; past the last place it is counted and not kept
-unfoldable pub pushed : Loaded → Command → Loaded
-pushed l c = record { types = l .types; kinds = l .kinds; rights = l .rights; count = l .count + 1; commands = set (l .commands) (l .count) c }
 
 -- a whole scheme, loaded
 unfoldable pub loadedFrom : Scheme → Loaded

@@ -10,7 +10,7 @@ ghost use Rattle.model.specs.Words.{between, all};
 ghost use Rattle.model.specs.Sizes.{mostCommands};
 ghost use Rattle.model.specs.Rights.{fitsRights};
 ghost use Rattle.model.specs.Schemes.{isCreate, isGrant, commandAt, commandIsValid, schemeIsValid};
-ghost use Rattle.schemes.specs.Loads.{listed, schemeIn, unloaded, pushed};
+ghost use Rattle.schemes.specs.Loads.{listed, schemeIn, unloaded};
 
 // The most of each that a scheme may have.
 pub const MOST_TYPES: usize = 8;
@@ -191,18 +191,4 @@ pub fn kept(count: usize) -> usize
         return count;
     }
     MOST_COMMANDS
-}
-
-// The scheme with one command more.
-pub fn push(l: Loaded, c: Command) -> Loaded
-    requires { ⌜ l .count < 18446744073709551615 ⌝ }
-    ensures { λ r. ⌜ r ≡ pushed l c ⌝ }
-{
-    let mut next = l;
-    let at = l.count;
-    next.count = at + 1;
-    if at < MOST_COMMANDS {
-        next.commands[at] = c;
-    }
-    next
 }
