@@ -94,7 +94,7 @@ module _ (s : Scheme) (people : List Person) (designs : List Design) (q : Reques
 
   -- ---- the store after it
 
-  pub requested-done : requestNumber s people designs q ≡ 0 → requested s people designs q ≡ carriedOut s designs q
+  pub requested-done : requestNumber s people designs q ≡ 0 → requested s people designs q ≡ carriedOut (commandAt s (q .command)) designs q
   unfolding requested
   requested-done h = rw (eq-eqb (requestNumber s people designs q) 0 h) refl
 

@@ -61,16 +61,15 @@ abbrev pub actedOn : Command → Request → Design → Design
 actedOn c q d = record { kind = d .kind; code = d .code; cells = act c (q .source) (q .destination) (d .cells) }
 
 -- the store after a request that is answered 0
-unfoldable pub carriedOut : Scheme → List Design → Request → List Design
-carriedOut s designs q =
-    let c = commandAt s (q .command) in
+unfoldable pub carriedOut : Command → List Design → Request → List Design
+carriedOut c designs q =
     designs ++ (newDesign c q ∷ []) when isCreate c else
     set designs (placeOf (q .code) designs) (actedOn c q (designAt (q .code) designs))
 
 -- "A refused request changes nothing"
 unfoldable pub requested : Scheme → List Person → List Design → Request → List Design
 requested s people designs q =
-    carriedOut s designs q when eqb (requestNumber s people designs q) 0 else
+    carriedOut (commandAt s (q .command)) designs q when eqb (requestNumber s people designs q) 0 else
     designs
 
 -- ", and a batch goes on after it."

@@ -1,24 +1,35 @@
 -- A request's outcome at each exit of its call: what is refused leaves the words as found, by the law that a refused request changes no word.
 -- Assumes nothing.
-use Prim.Native.Nat.{ℕ}
+use Prim.Native.Nat.{ℕ, _≤_, _<_}
 use mathlib.Core.Path.{_≡_, refl, sym, ap, _∙_}
 use mathlib.Core.Bool.{Bool, true, false, not}
 use mathlib.Core.Logic.{by-cases}
 use mathlib.Core.List.{List}
 use native.Mathlib.Decide.{ℕ-discrete}
+use native.Mathlib.Omega.{arith}
 use borrow.Author.Tests.{eq-eqb, ne-eqb, not-true, not-false}
-use Rattle.model.specs.Stores.{Design, storeWords}
+use lib.ListN.{length}
+use Rattle.model.specs.declared.Command.{Command}
+use Rattle.model.specs.Schemes.{commandAt}
+use Rattle.model.specs.Stores.{storeWords}
 use Rattle.model.specs.Requests.{Request, requestNumber, requested, carriedOut}
-use Rattle.model.specs.Outcomes.{Handed, peopleIn, designsIn, hasRooms, handedNumber, requestCallNumber, RequestOutcome}
+use Rattle.model.specs.Outcomes.{Handed, requestFrom, peopleIn, designsIn, hasRooms, handedNumber, requestCallNumber, RequestOutcome}
 use Rattle.laws.proofs.Stores.{Words, Lent}
 use Rattle.laws.proofs.Requests.{requested-done}
 use Rattle.laws.proofs.Kept.{handed-people, handed-lent}
 use Rattle.laws.proofs.Untouched.{refused-words}
+use Rattle.stores.specs.Standing.{Stands}
 use Rattle.handed.specs.Handing.{Accepted}
 use Rattle.handed.proofs.Numbers.{is-accepted, sized}
-use Rattle.requests.specs.Asking.{Allowed, Answered}
+use Rattle.requests.specs.Asking.{commandNumber, Allowed, Answered}
+use Rattle.requests.proofs.Deciding.{no-command, command-decides}
 
 -- ---- on what is accepted
+
+pub stands : (h : Handed) → Accepted h → Stands (h .count) (h .roster) (h .store)
+stands h a =
+    let sizes = sized h a in
+    record { few-people = sizes .people; roster-room = sizes .roster-room; store-room = sizes .store-room; few-designs = sizes .designs }
 
 module _ (h : Handed) (q : Request) (a : Accepted h) (fit : Words (h .store)) where
   lent : Lent (h .store)
@@ -30,26 +41,31 @@ module _ (h : Handed) (q : Request) (a : Accepted h) (fit : Words (h .store)) wh
   pub unchanged : (number ≡ 0 → ⊥) → h .store ≡ storeWords (requested (h .scheme) (peopleIn h) (designsIn h) q) (h .store)
   unchanged refused = sym (refused-words (h .scheme) (peopleIn h) (h .store) lent q refused)
 
-  module _ (n : ℕ) (en : n ≡ number) where
-    pub refused : (n ≡ 0 → ⊥) → Answered h q n (h .store)
-    refused some = record { number-is = en; store-is = unchanged (λ e. some (en ∙ e)) }
+  pub refused : (n : ℕ) → n ≡ number → (n ≡ 0 → ⊥) → Answered h q n (h .store)
+  refused n en some = record { number-is = en; store-is = unchanged (λ e. some (en ∙ e)) }
 
-    pub allowed : n ≡ 0 → Allowed (h .scheme) (h .store) q
+  pub none-named : length (h .scheme .commands) ≤ q .command → Answered h q 6 (h .store)
+  none-named l = refused 6 (no-command (h .scheme) (peopleIn h) (designsIn h) q l) (λ z. omega arith)
+
+  module _ (l : q .command < length (h .scheme .commands)) (c : Command) (ec : c ≡ commandAt (h .scheme) (q .command)) (n : ℕ)
+      (en : n ≡ commandNumber c (peopleIn h) (designsIn h) (q .source) (q .destination) (q .code)) where
+    is-number : n ≡ number
+    is-number = rw (command-decides (h .scheme) (peopleIn h) (designsIn h) q l, ← ec) en
+
+    pub command-refuses : (n ≡ 0 → ⊥) → Answered h q n (h .store)
+    command-refuses = refused n is-number
+
+    pub allowed : n ≡ 0 → Allowed c (h .store) (q .source) (q .destination) (q .code)
     allowed z =
         let sizes = sized h a in
-        record {
-          people = peopleIn h;
-          most = handed-people h (a .number);
-          number = sym en ∙ z;
-          commands = sizes .commands;
-          designs = sizes .designs;
-          room = sizes .store-room;
-        }
+        record { people = peopleIn h; most = handed-people h (a .number); number = sym en ∙ z; designs = sizes .designs; room = sizes .store-room }
 
-    pub done : n ≡ 0 → (after : List ℕ) → after ≡ storeWords (carriedOut (h .scheme) (designsIn h) q) (h .store) → Answered h q 0 after
+    pub done : n ≡ 0 → (after : List ℕ)
+        → after ≡ storeWords (carriedOut c (designsIn h) (requestFrom 0 (q .source) (q .destination) (q .code))) (h .store) → Answered h q 0 after
+    unfolding carriedOut
     done z after e = record {
-      number-is = sym z ∙ en;
-      store-is = e ∙ ap (λ (r : List Design). storeWords r (h .store)) (sym (requested-done (h .scheme) (peopleIn h) (designsIn h) q (sym en ∙ z)));
+      number-is = sym z ∙ is-number;
+      store-is = e ∙ rw (requested-done (h .scheme) (peopleIn h) (designsIn h) q (sym is-number ∙ z), ec);
     }
 
 -- ---- on whatever is handed over

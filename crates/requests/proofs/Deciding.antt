@@ -11,14 +11,14 @@ use Rattle.model.specs.declared.Command.{Command}
 use Rattle.model.specs.Words.{_when_else_, _then_}
 use Rattle.model.specs.Rights.{within}
 use Rattle.model.specs.Codes.{spelled}
-use Rattle.model.specs.Schemes.{Scheme, commandAt}
+use Rattle.model.specs.Schemes.{Scheme, isCreate, commandAt}
 use Rattle.model.specs.Rosters.{Person, typeAt, rosterOf}
 use Rattle.model.specs.Forms.{cellAt, held}
 use Rattle.model.specs.Stores.{Design, noDesign, placeOf}
 use Rattle.model.specs.Requests.{Request, twoPeople, createNumber, otherNumber, requestNumber}
 use Rattle.laws.proofs.Tests.{accepted}
 use Rattle.laws.proofs.Kept.{roster-length}
-use Rattle.requests.specs.Asking.{whoNumber}
+use Rattle.requests.specs.Asking.{whoNumber, commandNumber}
 
 -- ---- the two people
 
@@ -105,7 +105,32 @@ module _ (designs : List Design) (code : List ℕ) (n : ℕ) (en : n ≡ length 
         unfolding otherNumber held
         other-passes h = rw (← ep, ← en, lt-ltb place n l, ← ek, eq-eqb kind (c .kind) same, ← ec, ← eb, not-false b h)
 
--- ---- the request
+-- ---- the request, by a command that is there
+
+module _ (c : Command) (people : List Person) (designs : List Design) (a d : ℕ) (code : List ℕ) where
+  abbrev number : ℕ
+  number = commandNumber c people designs a d code
+
+  module _ (n : ℕ) (en : n ≡ whoNumber c people a d) where
+    pub who-refused : (n ≡ 0 → ⊥) → n ≡ number
+    unfolding commandNumber
+    who-refused some = rw (← en, ne-eqb n 0 some)
+
+    module _ (z : n ≡ 0) (b : Bool) (eb : b ≡ spelled code) where
+      pub misspelled : not b ≡ true → 4 ≡ number
+      unfolding commandNumber
+      misspelled h = rw (← en, z, ← eb, not-true b h)
+
+      module _ (h : not b ≡ false) where
+        pub create-decides : c .form ≡ 1 → createNumber designs code ≡ number
+        unfolding commandNumber
+        create-decides e = rw (← en, z, ← eb, not-false b h, eq-eqb (c .form) 1 e)
+
+        pub other-decides : (c .form ≡ 1 → ⊥) → otherNumber c designs a code ≡ number
+        unfolding commandNumber
+        other-decides e = rw (← en, z, ← eb, not-false b h, ne-eqb (c .form) 1 e)
+
+-- ---- the command that it names
 
 in-two : (a b c : Bool) (r : ℕ) → (7 when a else 8 when b else 9 when c else r) ≡ ((7 when a else 8 when b else 9 when c else 0) then r)
 in-two true b c r = refl
@@ -114,41 +139,20 @@ in-two false false true r = refl
 in-two false false false r = refl
 
 module _ (s : Scheme) (people : List Person) (designs : List Design) (q : Request) where
-  abbrev number : ℕ
-  number = requestNumber s people designs q
-
-  pub no-command : length (s .commands) ≤ q .command → 6 ≡ number
+  pub no-command : length (s .commands) ≤ q .command → 6 ≡ requestNumber s people designs q
   unfolding requestNumber
   no-command l = rw (le-ltb (q .command) (length (s .commands)) l)
 
-  module _ (l : q .command < length (s .commands)) (c : Command) (ec : c ≡ commandAt s (q .command)) where
-    chain : number
-        ≡ (whoNumber c people (q .source) (q .destination) then
-        4 when not (spelled (q .code)) else
-        createNumber designs (q .code) when eqb (c .form) 1 else
-        otherNumber c designs (q .source) (q .code))
-    unfolding requestNumber whoNumber
-    chain =
-        let a = q .source in
-        let d = q .destination in
-        rw (lt-ltb (q .command) (length (s .commands)) l, ← ec)
-        (in-two
-        (not (ltb a (length people) && ltb d (length people)))
-        (not (eqb (typeAt people a) (c .source) && eqb (typeAt people d) (c .destination)))
-        (twoPeople c a d)
-        (4 when not (spelled (q .code)) else createNumber designs (q .code) when eqb (c .form) 1 else otherNumber c designs a (q .code)))
-
-    module _ (n : ℕ) (en : n ≡ whoNumber c people (q .source) (q .destination)) where
-      pub who-refused : (n ≡ 0 → ⊥) → n ≡ number
-      who-refused some = rw (chain, ← en, ne-eqb n 0 some)
-
-      module _ (z : n ≡ 0) (b : Bool) (eb : b ≡ spelled (q .code)) where
-        pub misspelled : not b ≡ true → 4 ≡ number
-        misspelled h = rw (chain, ← en, z, ← eb, not-true b h)
-
-        module _ (h : not b ≡ false) where
-          pub create-decides : c .form ≡ 1 → createNumber designs (q .code) ≡ number
-          create-decides e = rw (chain, ← en, z, ← eb, not-false b h, eq-eqb (c .form) 1 e)
-
-          pub other-decides : (c .form ≡ 1 → ⊥) → otherNumber c designs (q .source) (q .code) ≡ number
-          other-decides e = rw (chain, ← en, z, ← eb, not-false b h, ne-eqb (c .form) 1 e)
+  pub command-decides : q .command < length (s .commands)
+      → requestNumber s people designs q ≡ commandNumber (commandAt s (q .command)) people designs (q .source) (q .destination) (q .code)
+  unfolding requestNumber commandNumber whoNumber
+  command-decides l =
+      let c = commandAt s (q .command) in
+      let a = q .source in
+      let d = q .destination in
+      rw (lt-ltb (q .command) (length (s .commands)) l)
+      (in-two
+      (not (ltb a (length people) && ltb d (length people)))
+      (not (eqb (typeAt people a) (c .source) && eqb (typeAt people d) (c .destination)))
+      (twoPeople c a d)
+      (4 when not (spelled (q .code)) else createNumber designs (q .code) when isCreate c else otherNumber c designs a (q .code)))

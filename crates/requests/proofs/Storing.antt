@@ -12,17 +12,18 @@ use Rattle.model.specs.declared.Code.{Code}
 use Rattle.model.specs.Words.{writtenOver}
 use Rattle.model.specs.Rights.{without, withThose}
 use Rattle.model.specs.Codes.{packed}
-use Rattle.model.specs.Schemes.{Scheme, commandAt}
+use Rattle.model.specs.Schemes.{Scheme}
 use Rattle.model.specs.Forms.{lose, gain, act, created}
 use Rattle.model.specs.Stores.{Design, placeOf, storeOf, storeWords}
-use Rattle.model.specs.Requests.{Request, newDesign, carriedOut}
+use Rattle.model.specs.Requests.{Request, requestNumber, newDesign, carriedOut}
 use Rattle.model.specs.Outcomes.{requestFrom}
 use Rattle.laws.proofs.Lists.{written-snoc}
 use Rattle.laws.proofs.Forms.{created-length}
 use Rattle.laws.proofs.Stores.{Words, Lent, store-length, create-written}
-use Rattle.laws.proofs.Requests.{Admitted, Creates, Acts, admits, creates, acts, requested-done}
+use Rattle.laws.proofs.Requests.{Admitted, Acts, admits, creates, acts, requested-done}
 use Rattle.laws.proofs.Untouched.{act-words}
 use Rattle.requests.specs.Asking.{Allowed}
+use Rattle.requests.proofs.Deciding.{command-decides}
 
 -- ---- a cleared run of words
 
@@ -86,41 +87,44 @@ module _ (c : Command) (w : List ℕ) (at v : ℕ) where
 
 -- ---- the request
 
-module _ (s : Scheme) (w : List ℕ) (q : Request) (k : Allowed s w q) where
-  abbrev named : Command
-  named = commandAt s (q .command)
+module _ (c : Command) (w : List ℕ) (a d : ℕ) (code : List ℕ) (k : Allowed c w a d code) where
+  -- it is the request of a scheme that has this command alone
+  abbrev alone : Scheme
+  alone = record { types = 0; kinds = 0; rights = 0; commands = c ∷ [] }
 
-  pub passed : Admitted s (k .people) q
-  passed = admits s (k .people) (storeOf w) q (k .number)
+  abbrev q : Request
+  q = requestFrom 0 a d code
 
-  pub source-few : q .source < 32
+  zero : requestNumber alone (k .people) (storeOf w) q ≡ 0
+  zero = command-decides alone (k .people) (storeOf w) q (omega arith) ∙ k .number
+
+  pub passed : Admitted alone (k .people) q
+  passed = admits alone (k .people) (storeOf w) q zero
+
+  pub source-few : a < 32
   source-few = omega (arith, passed .source, k .most)
 
-  pub destination-few : q .destination < 32
+  pub destination-few : d < 32
   destination-few = omega (arith, passed .destination, k .most)
 
-  module _ (c : Command) (ec : c ≡ named) where
-    creating : c .form ≡ 1 → Creates s (k .people) (storeOf w) q
-    creating e = creates s (k .people) (storeOf w) q (eq-eqb (named .form) 1 (sym (ap (λ (d : Command). d .form) ec) ∙ e)) (k .number)
+  acting : (c .form ≡ 1 → ⊥) → Acts alone (k .people) (storeOf w) q
+  acting e = acts alone (k .people) (storeOf w) q (ne-eqb (c .form) 1 e) zero
 
-    acting : (c .form ≡ 1 → ⊥) → Acts s (k .people) (storeOf w) q
-    acting e = acts s (k .people) (storeOf w) q (ne-eqb (named .form) 1 (λ z. e (ap (λ (d : Command). d .form) ec ∙ z))) (k .number)
+  pub create-room : c .form ≡ 1 → length (storeOf w) < 64
+  create-room e = creates alone (k .people) (storeOf w) q (eq-eqb (c .form) 1 e) zero .room
 
-    pub create-room : c .form ≡ 1 → length (storeOf w) < 64
-    create-room e = creating e .room
+  pub act-place : (c .form ≡ 1 → ⊥) → (place : ℕ) → place ≡ placeOf code (storeOf w) → place < 64
+  act-place e place ep = omega (arith, acting e .present, k .designs)
 
-    pub act-place : (c .form ≡ 1 → ⊥) → (place : ℕ) → place ≡ placeOf (q .code) (storeOf w) → place < 64
-    act-place e place ep = omega (arith, acting e .present, k .designs)
+  pub create-carried : c .form ≡ 1
+      → storeWords (storeOf w ++ newDesign c (requestFrom 0 a a code) ∷ []) w ≡ storeWords (carriedOut c (storeOf w) q) w
+  unfolding carriedOut
+  create-carried e = rw (eq-eqb (c .form) 1 e)
 
-    pub create-carried : c .form ≡ 1 → storeWords (storeOf w ++ newDesign c (requestFrom 0 (q .source) (q .source) (q .code)) ∷ []) w
-        ≡ storeWords (carriedOut s (storeOf w) q) w
-    unfolding carriedOut
-    create-carried e = rw (← ec, eq-eqb (c .form) 1 e)
-
-    pub act-carried : Words w → (c .form ≡ 1 → ⊥) → (place : ℕ) → place ≡ placeOf (q .code) (storeOf w)
-        → act c (5 + place * 36 + q .source) (5 + place * 36 + q .destination) w ≡ storeWords (carriedOut s (storeOf w) q) w
-    act-carried fit e place ep =
-        let lent : Lent w = record { fit = fit; few = omega (arith, store-length w, k .designs); room = k .room } in
-        rw (ec, ep)
-        (sym (act-words s (k .people) w lent q (k .most) (acting e))
-        ∙ ap (λ (r : List Design). storeWords r w) (requested-done s (k .people) (storeOf w) q (k .number)))
+  pub act-carried : Words w → (c .form ≡ 1 → ⊥) → (place : ℕ) → place ≡ placeOf code (storeOf w)
+      → act c (5 + place * 36 + a) (5 + place * 36 + d) w ≡ storeWords (carriedOut c (storeOf w) q) w
+  act-carried fit e place ep =
+      let lent : Lent w = record { fit = fit; few = omega (arith, store-length w, k .designs); room = k .room } in
+      rw ep
+      (sym (act-words alone (k .people) w lent q (k .most) (acting e))
+      ∙ ap (λ (r : List Design). storeWords r w) (requested-done alone (k .people) (storeOf w) q zero))

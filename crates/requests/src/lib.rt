@@ -7,8 +7,9 @@ pub mod stored;
 use handed::counted;
 use handed::handed_number;
 use handed::has_rooms;
-use numbers::request_number;
+use numbers::command_number;
 use schemes::Loaded;
+use schemes::command_of;
 use stored::carry_out;
 ghost use Rattle.model.specs.Outcomes.{requestFrom, RequestOutcome};
 ghost use Rattle.handed.specs.Handing.{countedBy, handedBy, Accepted};
@@ -28,11 +29,15 @@ pub fn answered(
     requires { ⌜ Accepted (handedBy l people (now roster) (now store)) ⌝ }
     ensures { λ r. ⌜ Answered (handedBy l people (now (roster .entry)) (now (store .entry))) (requestFrom command source destination (now (code .entry))) r (now (store .exit)) ⌝ }
 {
-    let answer = request_number(l, people, roster, store, command, source, destination, code);
+    if l.count <= command {
+        return 6;
+    }
+    let c = command_of(l, command);
+    let answer = command_number(c, people, roster, store, source, destination, code);
     if answer != 0 {
         return answer;
     }
-    carry_out(l, store, command, source, destination, code);
+    carry_out(c, store, source, destination, code);
     0
 }
 

@@ -1,4 +1,4 @@
-// The number of a request, in the order 6, 7, 8, 9, 4, and a create 10, 11, another 12, 13, 14. Nothing is written here.
+// The number of a request by a command that is there, in the order 7, 8, 9, 4, and a create 10, 11, another 12, 13, 14. Nothing is written here.
 use codes::spelled;
 use handed::place_named;
 use model::Command;
@@ -6,8 +6,6 @@ use rights::within;
 use rosters::type_at;
 use schemes::CREATE;
 use schemes::GRANT;
-use schemes::Loaded;
-use schemes::command_of;
 use stores::MOST_DESIGNS;
 use stores::cell_at;
 use stores::design_count;
@@ -20,11 +18,9 @@ ghost use Rattle.model.specs.Sizes.{rosterRoom, storeRoom};
 ghost use Rattle.model.specs.Codes.{spelled};
 ghost use Rattle.model.specs.Rosters.{rosterOf};
 ghost use Rattle.model.specs.Stores.{storeOf};
-ghost use Rattle.model.specs.Requests.{twoPeople, createNumber, otherNumber, requestNumber};
-ghost use Rattle.model.specs.Outcomes.{requestFrom};
-ghost use Rattle.schemes.specs.Loads.{schemeIn};
-ghost use Rattle.handed.specs.Handing.{handedBy, Accepted};
-ghost use Rattle.requests.specs.Asking.{whoNumber};
+ghost use Rattle.model.specs.Requests.{twoPeople, createNumber, otherNumber};
+ghost use Rattle.stores.specs.Standing.{Stands};
+ghost use Rattle.requests.specs.Asking.{whoNumber, commandNumber};
 
 // Only a grant takes two people.
 fn two_people(c: Command, source: usize, destination: usize) -> bool
@@ -93,24 +89,19 @@ fn other_number(c: Command, store: &[u32], source: usize, code: &[u8]) -> u8
     0
 }
 
-// The number of a request on what is accepted.
-pub fn request_number(
-    l: Loaded,
+// The number of a request by a command that is there.
+pub fn command_number(
+    c: Command,
     people: usize,
     roster: &[u32],
     store: &[u32],
-    command: usize,
     source: usize,
     destination: usize,
     code: &[u8],
 ) -> u8
-    requires { ⌜ Accepted (handedBy l people (now roster) (now store)) ⌝ }
-    ensures { λ r. ⌜ r ≡ requestNumber (schemeIn l) (rosterOf people (now (roster .entry))) (storeOf (now (store .entry))) (requestFrom command source destination (now (code .entry))) ⌝ }
+    requires { ⌜ Stands people (now roster) (now store) ⌝ }
+    ensures { λ r. ⌜ r ≡ commandNumber c (rosterOf people (now (roster .entry))) (storeOf (now (store .entry))) source destination (now (code .entry)) ⌝ }
 {
-    if l.count <= command {
-        return 6;
-    }
-    let c = command_of(l, command);
     let who = who_number(c, people, roster, source, destination);
     if who != 0 {
         return who;

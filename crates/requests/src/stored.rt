@@ -7,8 +7,6 @@ use model::Command;
 use rights::after_gain;
 use rights::after_loss;
 use schemes::CREATE;
-use schemes::Loaded;
-use schemes::command_of;
 use stores::DESIGN_WORDS;
 use stores::FIRST_CELL;
 ghost use mathlib.Core.Path.{_≡_};
@@ -20,7 +18,6 @@ ghost use Rattle.model.specs.Forms.{lose, gain, act, created};
 ghost use Rattle.model.specs.Stores.{storeOf, storeWords};
 ghost use Rattle.model.specs.Requests.{newDesign, carriedOut};
 ghost use Rattle.model.specs.Outcomes.{requestFrom};
-ghost use Rattle.schemes.specs.Loads.{schemeIn};
 ghost use Rattle.requests.specs.Asking.{Allowed};
 
 // Every word becomes 0.
@@ -88,18 +85,10 @@ fn act(c: Command, store: &mut [u32], place: usize, source: usize, destination: 
 }
 
 // The request, carried out.
-pub fn carry_out(
-    l: Loaded,
-    store: &mut [u32],
-    command: usize,
-    source: usize,
-    destination: usize,
-    code: &[u8],
-)
-    requires { ⌜ Allowed (schemeIn l) (now store) (requestFrom command source destination (now code)) ⌝ }
-    ensures { λ _. ⌜ now (store .exit) ≡ storeWords (carriedOut (schemeIn l) (storeOf (now (store .entry))) (requestFrom command source destination (now (code .entry)))) (now (store .entry)) ⌝ }
+pub fn carry_out(c: Command, store: &mut [u32], source: usize, destination: usize, code: &[u8])
+    requires { ⌜ Allowed c (now store) source destination (now code) ⌝ }
+    ensures { λ _. ⌜ now (store .exit) ≡ storeWords (carriedOut c (storeOf (now (store .entry))) (requestFrom 0 source destination (now (code .entry)))) (now (store .entry)) ⌝ }
 {
-    let c = command_of(l, command);
     if c.form == CREATE {
         create(c, store, source, code);
         return;
