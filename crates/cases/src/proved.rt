@@ -113,7 +113,7 @@ fn to_itself() {
 }
 
 // All of them.
-pub fn papers() {
+pub fn proved() {
     create_verdicts();
     design_verdicts();
     internal();
