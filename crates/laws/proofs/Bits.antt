@@ -2,7 +2,7 @@
 -- half, and induction on the place. Assumes nothing.
 use Prim.Native.Nat.{ℕ, zero, suc, _+_, _-_, _*_, _/_, _%_, _^_, _≤_, _<_, min, max}
 use mathlib.Core.Path.{_≡_, sym, ap, ap₂, _∙_}
-use mathlib.Core.Bool.{true, false, not}
+use mathlib.Core.Bool.{true, false, not, _&&_}
 use mathlib.Core.Logic.{_⊎_, by-cases, inl, inr}
 use mathlib.Core.List.{List, [], _∷_}
 use native.Mathlib.Nat.{div-one, div-div-eq-div-mul, pow-succ', zero-div, lt-of-lt-of-le, lt-of-le-of-lt, sub-le}
@@ -13,6 +13,7 @@ use lib.Bits.{bitAnd, bitOr, and-step, or-step, and-le-l, or-lt}
 use lib.Dec.{eqb}
 use lib.ListN.{length, getD}
 use lib.Pow.{pow-pos, pow-mono}
+use Rattle.laws.proofs.Tests.{same-test, passed}
 use Rattle.model.specs.Rights.{bit, has, within, without, withThose, common, meets, together, fitsRights}
 
 pub bit-below-two : (s k : ℕ) → bit s k < 2
@@ -152,6 +153,25 @@ without-lt n {s} y h = lt-of-le-of-lt (without-le s y) h
 pub with-lt : (n : ℕ) {s z : ℕ} → s < 2 ^ n → z < 2 ^ n → withThose s z < 2 ^ n
 unfolding withThose
 with-lt n {s} {z} = or-lt n s z
+
+-- a set is no larger than with others, which leave it when they go
+pub with-le : (s z : ℕ) → (s ≤ withThose s z) × (z ≤ withThose s z)
+with-le s z =
+    let gone-z : without (withThose s z) (without z s) ≡ s =
+        same-bits _ _ (λ k. rw (bit-without (withThose s z) (without z s) k, bit-with s z k, bit-without z s k) (omega (arith, bit-below-two s k, bit-below-two z k))) in
+    let gone-s : without (withThose s z) (without s z) ≡ z =
+        same-bits _ _ (λ k. rw (bit-without (withThose s z) (without s z) k, bit-with s z k, bit-without s z k) (omega (arith, bit-below-two s k, bit-below-two z k))) in
+    (omega (arith, gone-z, without-le (withThose s z) (without z s)), omega (arith, gone-s, without-le (withThose s z) (without s z)))
+
+-- two sets fit exactly if they fit together
+pub fits-with : (rights s z : ℕ) → fitsRights rights (withThose s z) ≡ (fitsRights rights s && fitsRights rights z)
+fits-with rights s z =
+    same-test (fitsRights rights (withThose s z)) (fitsRights rights s && fitsRights rights z)
+    (λ h.
+    let l = fits-true rights (withThose s z) h in
+    let (ls, lz) = with-le s z in
+    simp passed (lt-fits rights s (omega arith), lt-fits rights z (omega arith)))
+    (λ h. let both = simp passed at h in lt-fits rights (withThose s z) (with-lt rights (fits-true rights s (both .0)) (fits-true rights z (both .1))))
 
 -- ---- sets put together
 

@@ -2,6 +2,7 @@
 // definitions of `model`'s Schemes at the scheme that it stands for, `schemeIn`. Inner functions: none is offered outside.
 use model::Command;
 use rights::fits_rights;
+use rights::with_those;
 ghost use mathlib.Core.Path.{_≡_};
 ghost use mathlib.Core.Bool.{not, _&&_, _||_};
 ghost use Prim.Native.Nat.{_≤_, _<_, min};
@@ -63,18 +64,12 @@ fn is_within_counts(types: usize, kinds: usize, c: Command) -> bool
     (c.kind as usize) < kinds
 }
 
-// X, Y and Z have no right at or above the scheme's count.
+// X, Y and Z, put together, have no right at or above the scheme's count.
 fn sets_fit(rights: usize, c: Command) -> bool
     requires { ⌜ rights ≤ 32 ⌝ }
     ensures { λ r. ⌜ r ≡ (fitsRights rights (c .x) && fitsRights rights (c .y) && fitsRights rights (c .z)) ⌝ }
 {
-    if !fits_rights(c.x, rights) {
-        return false;
-    }
-    if !fits_rights(c.y, rights) {
-        return false;
-    }
-    fits_rights(c.z, rights)
+    fits_rights(with_those(with_those(c.x, c.y), c.z), rights)
 }
 
 // Only a grant goes from a type to another.
