@@ -1,7 +1,7 @@
 -- A request's outcome at each exit of its call: what is refused leaves the words as found, by the law that a refused request changes no word.
 -- Assumes nothing.
 use Prim.Native.Nat.{ℕ, _≤_, _<_}
-use mathlib.Core.Path.{_≡_, refl, sym, ap, _∙_}
+use mathlib.Core.Path.{_≡_, refl, sym, _∙_}
 use mathlib.Core.Bool.{Bool, true, false, not}
 use mathlib.Core.Logic.{by-cases}
 use mathlib.Core.List.{List}
