@@ -126,3 +126,18 @@ pub fn text_end(name: &[u8], s: &[u8], n: usize) {
         }
     }
 }
+
+// What the verdict program prints for the first n bytes of the stream.
+pub fn verdict_lines(name: &[u8], s: &[u8], n: usize) {
+    if s.len() < n {
+        return;
+    }
+    let mut table = [0u32; 16384];
+    let mut text = [0u8; 7488];
+    let printed = ribalonga::verdict_text(&s[..n], &mut table, &mut text);
+    let end = printed.bytes;
+    if end <= 7488 {
+        say(name);
+        say(&text[..end]);
+    }
+}

@@ -1,10 +1,10 @@
--- `traps::stored::text_room` lends a part of the text. Assumes nothing.
+-- `calls::stored::text_room` lends a part of the text. Assumes nothing.
 use mathlib.Core.Path.{sym}
 use native.Mathlib.Omega.{arith}
 use lib.Seq.{length-take-le}
 use borrow.Author.Needs.{needs}
-use Rattle.traps.proofs.stored.text_room.Statement.{statement}
-use Rattle.traps.proofs.stored.text_room.Tie as tie
+use Rattle.calls.proofs.stored.text_room.Statement.{statement}
+use Rattle.calls.proofs.stored.text_room.Tie as tie
 
 returns : tie.Need-returns
 returns c = search needs

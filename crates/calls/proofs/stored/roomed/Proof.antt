@@ -1,10 +1,10 @@
--- `traps::stored::roomed` lends parts of the three buffers. Assumes nothing.
+-- `calls::stored::roomed` lends parts of the three buffers. Assumes nothing.
 use mathlib.Core.Path.{sym}
 use native.Mathlib.Omega.{arith}
 use lib.Seq.{length-take-le}
 use borrow.Author.Needs.{needs}
-use Rattle.traps.proofs.stored.roomed.Statement.{statement}
-use Rattle.traps.proofs.stored.roomed.Tie as tie
+use Rattle.calls.proofs.stored.roomed.Statement.{statement}
+use Rattle.calls.proofs.stored.roomed.Tie as tie
 
 returns : tie.Need-returns
 returns c = search needs

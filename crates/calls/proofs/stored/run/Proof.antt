@@ -1,10 +1,10 @@
--- `traps::stored::run` lends a part of the answers. Assumes nothing.
+-- `calls::stored::run` lends a part of the answers. Assumes nothing.
 use mathlib.Core.Path.{sym}
 use native.Mathlib.Omega.{arith}
 use lib.Seq.{length-take-le}
 use borrow.Author.Needs.{needs}
-use Rattle.traps.proofs.stored.run.Statement.{statement}
-use Rattle.traps.proofs.stored.run.Tie as tie
+use Rattle.calls.proofs.stored.run.Statement.{statement}
+use Rattle.calls.proofs.stored.run.Tie as tie
 
 returns : tie.Need-returns
 returns c = search needs

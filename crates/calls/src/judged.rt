@@ -1,11 +1,14 @@
-// Traps of the verdict: its range (15), normal by kind (16), and duplicate steps (19).
+// Traps of the verdict: its range (15), normal by kind (16), duplicate steps (19), and the lines that the verdict program prints.
 use schemes::Loaded;
 use schemes::empty;
 use trials::asking::asked;
 use trials::asking::asked_in;
 use trials::asking::scheme_a;
+use trials::asking::scheme_b;
 use trials::asking::scheme_c;
+use trials::printing::verdict_lines;
 use trials::writing::line;
+use trials::writing::scheme;
 use trials::writing::with;
 
 // Trap 6: a table too short; budgets.
@@ -74,9 +77,28 @@ fn steps() {
     asked(b"T9 handed over: ", handover(), 0, 0, 0, 1);
 }
 
+// What the verdict program prints for a scheme's card.
+fn printed(name: &[u8], l: Loaded) {
+    let mut stream = [0u8; 256];
+    let s: &mut [u8] = &mut stream;
+    let end = scheme(s, l);
+    verdict_lines(name, s, end);
+}
+
+// Trap 18: the lines of each create; none for a scheme with no create.
+fn lines() {
+    printed(b"T18 A:\n", scheme_a());
+    printed(b"T18 B:\n", scheme_b());
+    printed(b"T18 C:\n", scheme_c());
+    printed(b"T18 two creates:\n", two_kinds());
+    printed(b"T18 no create:\n", empty(1, 1, 1));
+    printed(b"T18 0 types: ", empty(0, 1, 1));
+}
+
 // All of them.
 pub fn verdicts() {
     tables();
     ranges();
     steps();
+    lines();
 }
