@@ -1,21 +1,21 @@
 // P1 to P12 of document 01.
-use crate::asking::asked;
-use crate::asking::design_asked;
-use crate::asking::scheme_a;
-use crate::asking::scheme_b;
-use crate::asking::scheme_c;
-use crate::printing::say;
-use crate::printing::text;
-use crate::writing::alone;
-use crate::writing::asks;
-use crate::writing::batch;
-use crate::writing::close;
-use crate::writing::line;
-use crate::writing::person;
-use crate::writing::roster;
-use crate::writing::scheme;
-use crate::writing::with;
 use schemes::empty;
+use trials::asking::asked;
+use trials::asking::design_asked;
+use trials::asking::scheme_a;
+use trials::asking::scheme_b;
+use trials::asking::scheme_c;
+use trials::printing::say;
+use trials::printing::text;
+use trials::writing::alone;
+use trials::writing::asks;
+use trials::writing::batch;
+use trials::writing::close;
+use trials::writing::line;
+use trials::writing::person;
+use trials::writing::roster;
+use trials::writing::scheme;
+use trials::writing::with;
 
 // P1 to P6: start 0; type, right and budget as document 01 names them.
 fn create_verdicts() {

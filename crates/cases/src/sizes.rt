@@ -1,33 +1,27 @@
 // The sizes that document 01 wants run and compared: the most that is taken, and one more.
-use crate::asking::abc;
-use crate::printing::of_byte;
-use crate::printing::one;
-use crate::printing::ran;
-use crate::printing::text;
-use crate::printing::text_end;
-use crate::writing::alone;
-use crate::writing::asks;
-use crate::writing::batch;
-use crate::writing::byte;
-use crate::writing::close;
-use crate::writing::creates;
-use crate::writing::line;
-use crate::writing::long_code;
-use crate::writing::pair;
-use crate::writing::people;
-use crate::writing::quiet;
-use crate::writing::roster;
-use crate::writing::same;
-use crate::writing::scheme;
-use crate::writing::with;
 use requests::batch::run_batch;
 use schemes::Loaded;
-use schemes::empty;
-
-// A scheme of one create with Z = 01.
-pub fn one_create() -> Loaded {
-    with(empty(1, 1, 1), line(1, 0, 0, 0, 0, 0, 1))
-}
+use trials::asking::abc;
+use trials::asking::one_create;
+use trials::printing::of_byte;
+use trials::printing::one;
+use trials::printing::ran;
+use trials::printing::text;
+use trials::printing::text_end;
+use trials::writing::alone;
+use trials::writing::asks;
+use trials::writing::batch;
+use trials::writing::byte;
+use trials::writing::close;
+use trials::writing::creates;
+use trials::writing::line;
+use trials::writing::long_code;
+use trials::writing::pair;
+use trials::writing::people;
+use trials::writing::quiet;
+use trials::writing::roster;
+use trials::writing::same;
+use trials::writing::scheme;
 
 // A scheme of so many equal creates.
 fn equal_creates(n: usize) -> Loaded {
