@@ -158,9 +158,9 @@ with-lt n {s} {z} = or-lt n s z
 pub with-le : (s z : ℕ) → (s ≤ withThose s z) × (z ≤ withThose s z)
 with-le s z =
     let gone-z : without (withThose s z) (without z s) ≡ s =
-        same-bits _ _ (λ k. rw (bit-without (withThose s z) (without z s) k, bit-with s z k, bit-without z s k) (omega (arith, bit-below-two s k, bit-below-two z k))) in
+    same-bits _ _ (λ k. rw (bit-without (withThose s z) (without z s) k, bit-with s z k, bit-without z s k) (omega (arith, bit-below-two s k, bit-below-two z k))) in
     let gone-s : without (withThose s z) (without s z) ≡ z =
-        same-bits _ _ (λ k. rw (bit-without (withThose s z) (without s z) k, bit-with s z k, bit-without s z k) (omega (arith, bit-below-two s k, bit-below-two z k))) in
+    same-bits _ _ (λ k. rw (bit-without (withThose s z) (without s z) k, bit-with s z k, bit-without s z k) (omega (arith, bit-below-two s k, bit-below-two z k))) in
     (omega (arith, gone-z, without-le (withThose s z) (without z s)), omega (arith, gone-s, without-le (withThose s z) (without s z)))
 
 -- two sets fit exactly if they fit together
