@@ -40,6 +40,7 @@ pub const GROUPS: &[Group] = &[
     Group { name: "wanted", gate: 1_500, case: wanted },
     Group { name: "demand-3", gate: 1_500, case: demand_3 },
     Group { name: "reverse", gate: 1_500, case: reverse },
+    Group { name: "like-b", gate: 400, case: like_b },
 ];
 
 /// What the gate has to have met, so that no group tries less than it says.
@@ -84,6 +85,8 @@ pub fn required() -> Vec<String> {
         "demand 3: from a design in the store",
         "demand 3: the roster grew",
         "reverse: a right reached",
+        "like B: refused with 19",
+        "like B: a verdict",
         "reverse: a right not reached",
     ] {
         all.push(what.to_string());
@@ -1421,6 +1424,72 @@ fn reverse(seen: &mut Seen, rng: &mut Random) -> Tried<()> {
         }
     }
     Ok(())
+}
+
+/// Schemes like B: someone who asks for a review may ask again. Two people of one
+/// type can then hold the review at once, which no stand-in shows, so that there is
+/// no verdict. Types and rights are numbered anew each time.
+fn like_b(seen: &mut Seen, rng: &mut Random) -> Tried<()> {
+    let asks_again = [rng.percent(50), rng.percent(50)];
+    let (types, rights) = (rng.between(3, 8), rng.between(8, 32));
+    let (type_at, right_at) = (shuffled(rng, types), shuffled(rng, rights));
+    let moved =
+        |set: u32| (0..8).filter(|k| set >> k & 1 == 1).fold(0, |all, k| all | 1u32 << right_at[k]);
+    let mut commands = mill::A.to_vec();
+    for (command, again) in [2, 3].into_iter().zip(asks_again) {
+        if again {
+            commands[command].y = 0;
+        }
+    }
+    for c in commands.iter_mut() {
+        c.source = type_at[c.source as usize] as u8;
+        c.destination = type_at[c.destination as usize] as u8;
+        (c.x, c.y, c.z) = (moved(c.x), moved(c.y), moved(c.z));
+    }
+    let people: Vec<(u8, Vec<u8>)> =
+        [(0, "ANN"), (1, "LAB-1"), (1, "LAB-2"), (2, "LIC-1"), (2, "LIC-2")]
+            .into_iter()
+            .map(|(t, code): (usize, &str)| (type_at[t] as u8, code.as_bytes().to_vec()))
+            .collect();
+    let mut set = Setting {
+        commands,
+        types,
+        kinds: 1,
+        rights,
+        roster: roster_words(&people),
+        people: people.len(),
+        store: vec![0; STORE_WORDS],
+    };
+    for (command, to) in [(0, 0), (1, 0), (2, 1), (2, 2), (3, 3), (3, 4)] {
+        let (_, store) = trial::request(seen, rng, &set, command, 0, to, b"W")?;
+        set.store = store;
+    }
+    let review = moved(0x10);
+    let cell = |person: usize| set.store[5 + person] & review;
+    let together = cell(1) & cell(2) != 0 || cell(3) & cell(4) != 0;
+    expect("two of a type with the review", together == asks_again.contains(&true))?;
+    let table = vec![0xAAAA_AAAA; 8 * BUDGET];
+    let (verdict, _) = trial::verdict_of_create(
+        seen,
+        rng,
+        &set.scheme(),
+        0,
+        type_at[0],
+        right_at[7],
+        BUDGET,
+        &table,
+    )?;
+    seen.note(if together { "like B: refused with 19" } else { "like B: a verdict" });
+    expect("a verdict only where none hold it together", verdict.number == 19 * together as u8)
+}
+
+/// The numbers below n, in any order.
+fn shuffled(rng: &mut Random, n: usize) -> Vec<usize> {
+    let mut all: Vec<usize> = (0..n).collect();
+    for last in (1..n).rev() {
+        all.swap(last, rng.below(last + 1));
+    }
+    all
 }
 
 /// Every state of a design that requests of one person for each type lead to, with
