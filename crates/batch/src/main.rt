@@ -1,5 +1,7 @@
 // The batch program: reads scheme, roster and batch cards from standard input, one after the other, and prints the text that the
 // library gives for them. It reads, calls and writes; what it prints is proved of `batch_text`.
+#![tactic(auto)]
+
 ghost use Rattle.std.specs.Prelude.{◌≤◌, ◌≡◌, length};
 
 use input::read_some;

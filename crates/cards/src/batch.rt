@@ -34,7 +34,7 @@ pub fn is_batch_card(card: &[u8]) -> bool
 }
 
 // What stands at the beginning of the rest: a request, whose code ends with its last byte, or one that runs past the end.
-#[derive(Drop)]
+#[derive(Clone, Copy)]
 pub enum Next {
     Request {
         command: usize,

@@ -4,7 +4,7 @@ ghost use Rattle.model.specs.Cards.{entries_fill};
 ghost use Rattle.cards.specs.Entries.{entry_of};
 
 // What stands at the beginning of the rest: an entry of this size, or one that runs past the end.
-#[derive(Drop)]
+#[derive(Clone, Copy)]
 pub enum Entry {
     Whole(usize),
     PastEnd,

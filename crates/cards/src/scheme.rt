@@ -76,7 +76,7 @@ pub fn scheme_on(card: &[u8]) -> Loaded
 }
 
 // What reading a scheme card gives: the number, and with 0 the scheme.
-#[derive(Drop)]
+#[derive(Clone, Copy)]
 pub struct SchemeCard {
     pub number: u8,
     pub scheme: Loaded,

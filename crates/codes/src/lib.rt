@@ -1,6 +1,8 @@
 // The codes of people and designs: what a code may hold, and its three words in lent memory. Meets the definitions of
 // `model`'s Codes under the same names. Inner functions: whatever reads a card or a roster calls them, and none is
 // offered outside.
+#![tactic(auto)]
+
 mod classes;
 
 ghost use Rattle.std.specs.Prelude.{◌≡◌, ◌&&◌, [], ◌∷◌, ◌++◌, ◌+◌, ◌≤◌, eqb, length, get_or, take, drop};
@@ -107,7 +109,7 @@ pub fn same_code(v: Code, w: Code) -> bool
 }
 
 // Twelve bytes and how many of them are the code: what three words hold.
-#[derive(Drop)]
+#[derive(Clone, Copy)]
 pub struct Bytes {
     pub bytes: [u8; 12],
     pub len: usize,

@@ -2,6 +2,8 @@
 // then the design that a call names (4, 12).
 // Meets the definitions of `model`'s Outcomes at what was handed over, `handed_by`. Inner functions: every call that takes a store begins with them, and
 // none is offered outside.
+#![tactic(auto)]
+
 ghost use Rattle.std.specs.Prelude.{◌≡◌, true, ℕ, ◌≤◌, length};
 ghost use Rattle.model.specs.Sizes.{roster_room, store_room};
 ghost use Rattle.model.specs.Codes.{spelled};

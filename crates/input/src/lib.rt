@@ -1,4 +1,6 @@
 // Standard input, as the two programs read it: one read, of at most the bytes that are wanted.
+#![tactic(auto)]
+
 ghost use Rattle.io.specs.Counts.{IsPrefixLen};
 
 use libc::STDIN_FILENO;

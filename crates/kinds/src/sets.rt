@@ -12,7 +12,7 @@ use model::Command;
 use schemes::Loaded;
 
 // The two sets of a kind.
-#[derive(Drop)]
+#[derive(Clone, Copy)]
 pub struct Sets {
     pub propagation: u32,
     pub deletable: u32,

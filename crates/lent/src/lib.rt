@@ -1,6 +1,8 @@
 // The lent list of a scheme's commands: the two functions that read and write it. Each is proved by hand, since the borrow checker
 // covers no slice of structs. A public call loads the list into a scheme by value and goes on with that, and its proof is one line
 // over proofs/Doors.antt; the call that fills the list is over proofs/Fills.antt. Inner functions: none is offered outside.
+#![tactic(auto)]
+
 ghost use Rattle.std.specs.Prelude.{◌≡◌, ◌≤◌, length, take};
 ghost use Rattle.model.specs.Words.{written_over};
 ghost use Rattle.lent.specs.Loads.{loaded_of};
@@ -37,7 +39,7 @@ pub fn store_all(commands: &mut [Command], l: Loaded)
 }
 
 // What the call that fills the list goes on with: its answer, and the scheme whose commands it writes.
-#[derive(Drop)]
+#[derive(Clone, Copy)]
 pub struct Filled {
     pub answer: SchemeRead,
     pub scheme: Loaded,

@@ -1,5 +1,7 @@
 // The lines that the two programs print, each built by value and then put into the lent text. Meets the definitions of `model`'s
 // Lines. Inner functions: none is offered outside.
+#![tactic(auto)]
+
 ghost use Rattle.std.specs.Prelude.{[], ◌∷◌, ◌≡◌, ◌+◌, ◌<◌, ◌≤◌, length};
 ghost use Rattle.model.specs.Codes.{unpacked};
 ghost use Rattle.model.specs.Lines.{digit_byte, decimal, hexadecimal, line, line_x};
@@ -14,7 +16,7 @@ const SPACE: u8 = 32;
 const NEWLINE: u8 = 10;
 
 // A line so far: its first bytes. The longest line has 24.
-#[derive(Drop)]
+#[derive(Clone, Copy)]
 pub struct Line {
     pub bytes: [u8; 32],
     pub len: usize,

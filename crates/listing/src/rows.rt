@@ -7,7 +7,7 @@ ghost use Rattle.model.specs.Sizes.{row_words};
 pub const ROW_WORDS: usize = 8;
 
 // A stand-in state by value.
-#[derive(Drop)]
+#[derive(Clone, Copy)]
 pub struct Row {
     pub cells: [u32; ROW_WORDS],
 }

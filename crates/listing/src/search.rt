@@ -12,7 +12,7 @@ use model::Command;
 use schemes::Loaded;
 
 // How far a search is: rows listed, row at hand, command at hand. One row more than the budget says that the search was cut.
-#[derive(Drop)]
+#[derive(Clone, Copy)]
 pub struct Progress {
     pub rows: usize,
     pub row: usize,

@@ -1,5 +1,7 @@
 // The mill's schemes A and B as constant tables of seven commands' numbers, and the command records that they stand for.
 // Proved equal to the definitions' `commands_a` and `commands_b`. The programs and the cases take the schemes from here.
+#![tactic(auto)]
+
 ghost use Rattle.std.specs.Prelude.{◌≡◌};
 ghost use Rattle.model.specs.Mill.{commands_a, commands_b};
 ghost use Rattle.mill.specs.Tables.{command_of, commands_of};

@@ -1,9 +1,10 @@
 // The ground: the plain records that travel between the calls, and in specs/ every rule of the build as a definition.
 // No code is here but the records. Every other crate is proved against these definitions.
+#![tactic(auto)]
 
 // One command of a scheme, sixteen bytes as on its card.
 #[repr(C)]
-#[derive(Drop)]
+#[derive(Clone, Copy)]
 pub struct Command {
     pub form: u8,
     pub source: u8,
@@ -16,7 +17,7 @@ pub struct Command {
 
 // The code of a person or a design: twelve bytes, padded with zeros, as three big-endian words.
 #[repr(C)]
-#[derive(Drop)]
+#[derive(Clone, Copy)]
 pub struct Code {
     pub a: u32,
     pub b: u32,
@@ -25,7 +26,7 @@ pub struct Code {
 
 // The answer to a scheme card: the number, the scheme's three counts, and how many records were written.
 #[repr(C)]
-#[derive(Drop)]
+#[derive(Clone, Copy)]
 pub struct SchemeRead {
     pub number: u8,
     pub types: usize,
@@ -36,7 +37,7 @@ pub struct SchemeRead {
 
 // The answer to a roster card: the number, and how many people were written.
 #[repr(C)]
-#[derive(Drop)]
+#[derive(Clone, Copy)]
 pub struct RosterRead {
     pub number: u8,
     pub people: usize,
@@ -44,7 +45,7 @@ pub struct RosterRead {
 
 // The answer to a batch card: the number, how many requests it holds, and how many were answered 0.
 #[repr(C)]
-#[derive(Drop)]
+#[derive(Clone, Copy)]
 pub struct BatchRun {
     pub number: u8,
     pub requests: usize,
@@ -53,7 +54,7 @@ pub struct BatchRun {
 
 // The answer to "may this person use this right on this design": the number, and 1 for a yes.
 #[repr(C)]
-#[derive(Drop)]
+#[derive(Clone, Copy)]
 pub struct MayUse {
     pub number: u8,
     pub may: u8,
@@ -61,7 +62,7 @@ pub struct MayUse {
 
 // The answer to an access list: the number, and how many pairs were written.
 #[repr(C)]
-#[derive(Drop)]
+#[derive(Clone, Copy)]
 pub struct AccessList {
     pub number: u8,
     pub people: usize,
@@ -69,7 +70,7 @@ pub struct AccessList {
 
 // The answer to a verdict's question.
 #[repr(C)]
-#[derive(Drop)]
+#[derive(Clone, Copy)]
 pub struct Verdict {
     pub number: u8,
     pub states: usize,
@@ -80,7 +81,7 @@ pub struct Verdict {
 
 // The answer to a program's whole text: the number, and how many bytes were written.
 #[repr(C)]
-#[derive(Drop)]
+#[derive(Clone, Copy)]
 pub struct Text {
     pub number: u8,
     pub bytes: usize,

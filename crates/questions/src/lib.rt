@@ -1,5 +1,7 @@
 // The question "may this person use this right on this design", and the access list of a design. Meets the definitions of `model`'s
 // Questions and Outcomes at what was handed over. Inner functions: the public calls load the scheme and go on here.
+#![tactic(auto)]
+
 ghost use Rattle.std.specs.Prelude.{◌≡◌, List, ℕ, ◌≤◌, ◌<◌, length, get_or};
 ghost use Rattle.model.specs.Stores.{no_design, store_of};
 ghost use Rattle.model.specs.Outcomes.{may_use_call_number, MayUseOutcome, access_list_number, AccessListOutcome};

@@ -1,5 +1,7 @@
 // A roster card, read with its scheme into lent words. Meets the outcome of `read_roster` in `model`'s Outcomes. Inner functions: the public calls
 // go through them, and none is offered outside.
+#![tactic(auto)]
+
 ghost use Rattle.std.specs.Prelude.{◌≡◌, true, ◌≤◌, length};
 ghost use Rattle.model.specs.Rosters.{roster_number};
 ghost use Rattle.model.specs.Cards.{is_roster_card, people_of};

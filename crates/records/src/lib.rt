@@ -1,6 +1,8 @@
 // Records in lent words, `size` words each: word 0 is a number, words 1 to 3 are a code. A roster's records have four words, a store's designs 36
 // (from its word 1 on). What a roster and a store ask of their codes is asked here, once for both. Inner functions: `rosters` and `stores` call
 // them, and none is offered outside.
+#![tactic(auto)]
+
 ghost use Rattle.std.specs.Prelude.{◌≡◌, ◌+◌, ◌*◌, ◌≤◌, length};
 ghost use Rattle.model.specs.Words.{all, first_place, same, all_differ};
 ghost use Rattle.model.specs.Codes.{spelled, unpacked};

@@ -16,7 +16,7 @@ use model::BatchRun;
 use schemes::Loaded;
 
 // The answer to one request of a batch, and the size of its entry.
-#[derive(Drop)]
+#[derive(Clone, Copy)]
 pub struct Step {
     pub number: u8,
     pub size: usize,

@@ -1,5 +1,7 @@
 // A request, and a batch of them: the number is decided before any word is written (`numbers`), and on 0 the request is carried out (`stored`). Meets
 // the definitions of `model`'s Requests and Outcomes. Inner functions: the public calls go through them, and none is offered outside.
+#![tactic(auto)]
+
 pub mod batch;
 pub mod numbers;
 pub mod stored;

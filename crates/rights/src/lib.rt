@@ -1,6 +1,8 @@
 // Sets of rights as 32-bit numbers, and a command's effect on one cell or two, by value. Meets the definitions of
 // `model`'s Rights and Forms under the same names. Inner functions: whatever reads or changes cells calls them, and
 // none is offered outside.
+#![tactic(auto)]
+
 ghost use Rattle.std.specs.Prelude.{◌≡◌, ◌<◌, ◌≤◌};
 ghost use Rattle.model.specs.Rights.{has, within, without, with_those, common, meets, fits_rights};
 

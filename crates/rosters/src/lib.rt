@@ -1,5 +1,7 @@
 // Rosters in lent words, four a person: the type and the three words of the code. Meets the definitions of `model`'s Rosters. Inner functions:
 // every call that takes a roster calls them, and none is offered outside.
+#![tactic(auto)]
+
 ghost use Rattle.std.specs.Prelude.{◌≡◌, not, ℕ, ◌≤◌, ◌<◌, ltb, length, get_or};
 ghost use Rattle.model.specs.Words.{any};
 ghost use Rattle.model.specs.Codes.{unpacked};

@@ -208,7 +208,7 @@ module _ (s : Scheme) (valid : ValidScheme s) (code : List ℕ) (start : Start) 
         inv = ⊎_elim (λ e. rw e now.inv) (λ acted. rw acted.2 (act-now acted.0 acted.1)) what;
       }
 
-  later_now : {people₀ people : List Person} {designs₀ designs : List Design} → Now s code start budget people₀ designs₀
+  later_now : {people₀ : List Person} {designs₀ : List Design} {people : List Person} {designs : List Design} → Now s code start budget people₀ designs₀
       → Later s people₀ designs₀ people designs → Now s code start budget people designs
   later_now now first = now
   later_now now (joins {people = people} {designs = designs} before people' joined) = joined_now people people' designs joined (later_now now before)

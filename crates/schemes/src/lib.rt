@@ -1,5 +1,7 @@
 // A scheme by value, as the cores take it: its three counts, how many commands were lent, and the first 64 of them. Meets the
 // definitions of `model`'s Schemes at the scheme that it stands for, `scheme_in`. Inner functions: none is offered outside.
+#![tactic(auto)]
+
 ghost use Rattle.std.specs.Prelude.{◌≡◌, not, ◌&&◌, ◌||◌, ◌≤◌, ◌<◌, min, ltb, eqb};
 ghost use Rattle.model.specs.Words.{between, all};
 ghost use Rattle.model.specs.Sizes.{most_commands};
@@ -27,7 +29,7 @@ pub const GRANT: u8 = 2;
 pub const INTERNAL: u8 = 3;
 
 // A scheme that was loaded from the lent list of its commands. Commands past the 64th are counted and not kept.
-#[derive(Drop)]
+#[derive(Clone, Copy)]
 pub struct Loaded {
     pub types: usize,
     pub kinds: usize,

@@ -1,5 +1,7 @@
 // Stores in lent words: the count of designs, then 36 words a design: the kind, the three words of the code, and a cell for each of a roster's 32
 // places. Meets the definitions of `model`'s Stores. Inner functions: every call that takes a store calls them, and none is offered outside.
+#![tactic(auto)]
+
 ghost use Rattle.std.specs.Prelude.{◌≡◌, map, ◌*◌, ◌≤◌, ◌<◌, eqb, length, get_or};
 ghost use Rattle.model.specs.Words.{all, groups};
 ghost use Rattle.model.specs.Rights.{fits_rights};

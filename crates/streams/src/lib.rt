@@ -1,5 +1,7 @@
 // The cards in the stream that a program reads: where each ends, and how many more bytes are wanted. Meets the definitions of `model`'s Lines.
 // Inner functions: the public calls go through them, and none is offered outside.
+#![tactic(auto)]
+
 ghost use Rattle.std.specs.Prelude.{◌≡◌};
 ghost use Rattle.model.specs.Lines.{card_wanted, BatchWantedOutcome, VerdictWantedOutcome};
 ghost use Rattle.streams.specs.Ends.{CardEnd};

@@ -1,5 +1,7 @@
 // The whole texts that the two programs print, written into lent bytes: line after line, each put behind those before it. Meets the definitions of
 // `model`'s Lines. Inner functions: the public calls go through them, and none is offered outside.
+#![tactic(auto)]
+
 pub mod batch;
 pub mod parts;
 pub mod refusal;

@@ -1,5 +1,7 @@
 // The verdict program: reads a scheme card from standard input, and prints the text that the library gives for it. It reads, calls and
 // writes; what it prints is proved of `verdict_text`.
+#![tactic(auto)]
+
 ghost use Rattle.std.specs.Prelude.{◌≤◌, ◌≡◌, length};
 
 use input::read_some;
