@@ -5,13 +5,14 @@
 ghost use Rattle.std.specs.Prelude.{◌≤◌, ◌≡◌, length};
 
 use input::read_some;
-use libc::STDOUT_FILENO;
+use std::io;
+use std::io::Read;
 
 // The most bytes of three cards.
 const MOST_STREAM: usize = 196608;
 
 // Reads the cards, and no byte more; how many bytes they have.
-fn read_cards(stream: &mut [u8]) -> usize
+fn read_cards<R: Read>(input: &mut R, stream: &mut [u8]) -> usize
     requires { 196608 ≡ length stream.old }
     ensures { result ≤ 196608 }
 {
@@ -22,7 +23,7 @@ fn read_cards(stream: &mut [u8]) -> usize
             break;
         }
         let end = n + wanted;
-        let got = read_some(&mut stream[n..end]);
+        let got = read_some(input, &mut stream[n..end]);
         if got == 0 {
             break;
         }
@@ -31,10 +32,10 @@ fn read_cards(stream: &mut [u8]) -> usize
     n
 }
 
-fn main() {
+fn main(rt: HostRuntime) -> io::Result<()> {
     let mut stream = [0u8; 196608];
     let mut text = [0u8; 52554];
-    let n = read_cards(&mut stream);
+    let n = read_cards(&mut rt.stdin(), &mut stream);
     let printed = ribalonga::batch_text(&stream[..n], &mut text);
-    io::write_all(STDOUT_FILENO, &text[..printed.bytes]);
+    rt.write_all(&text[..printed.bytes])
 }

@@ -5,7 +5,9 @@
 mod judged;
 mod stored;
 
-fn main() {
-    judged::verdicts();
-    stored::stores();
+use std::io;
+
+fn main(rt: HostRuntime) -> io::Result<()> {
+    judged::verdicts(&rt)?;
+    stored::stores(&rt)
 }

@@ -6,8 +6,10 @@ mod proved;
 mod released;
 mod sizes;
 
-fn main() {
-    proved::proved();
-    released::releases();
-    sizes::sizes();
+use std::io;
+
+fn main(rt: HostRuntime) -> io::Result<()> {
+    proved::proved(&rt)?;
+    released::releases(&rt)?;
+    sizes::sizes(&rt)
 }

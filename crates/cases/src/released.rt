@@ -2,6 +2,7 @@
 use mill::papers::{added_3, added_4, added_5, paper_1, paper_2, paper_6};
 use model::Command;
 use schemes::Loaded;
+use std::io;
 use trials::asking::{asked, mill_scheme};
 
 // A scheme of the paper: three types, one kind and eleven rights; seven commands and five more, of which so many count.
@@ -18,12 +19,12 @@ fn paper(c: [Command; 7], more: [Command; 7], count: usize) -> Loaded {
 }
 
 // Each at the largest budget.
-pub fn releases() {
+pub fn releases(rt: &impl Print) -> io::Result<()> {
     let two = paper_2();
-    asked(b"Scheme 1: ", paper(paper_1(), two, 6), 0, 0, 10, 2048);
-    asked(b"Scheme 2: ", paper(two, two, 7), 0, 0, 10, 2048);
-    asked(b"Scheme 3: ", paper(two, added_3(), 9), 0, 0, 10, 2048);
-    asked(b"Scheme 4: ", paper(two, added_4(), 9), 0, 0, 10, 2048);
-    asked(b"Scheme 5: ", paper(two, added_5(), 12), 0, 0, 10, 2048);
-    asked(b"Scheme 6: ", paper(paper_6(), two, 6), 0, 0, 10, 2048);
+    asked(rt, b"Scheme 1: ", paper(paper_1(), two, 6), 0, 0, 10, 2048)?;
+    asked(rt, b"Scheme 2: ", paper(two, two, 7), 0, 0, 10, 2048)?;
+    asked(rt, b"Scheme 3: ", paper(two, added_3(), 9), 0, 0, 10, 2048)?;
+    asked(rt, b"Scheme 4: ", paper(two, added_4(), 9), 0, 0, 10, 2048)?;
+    asked(rt, b"Scheme 5: ", paper(two, added_5(), 12), 0, 0, 10, 2048)?;
+    asked(rt, b"Scheme 6: ", paper(paper_6(), two, 6), 0, 0, 10, 2048)
 }

@@ -50,8 +50,7 @@ fn scheme_filled(card: &[u8], room: usize) -> Filled
 }
 
 // A scheme card, read into the lent list of commands.
-#[unsafe(no_mangle)]
-pub extern "C" fn read_scheme(card: &[u8], commands: &mut [Command]) -> SchemeRead
+pub fn read_scheme(card: &[u8], commands: &mut [Command]) -> SchemeRead
     ensures { ReadSchemeOutcome card.now commands.old result commands.new }
 {
     let filled = scheme_filled(card, commands.len());
@@ -60,8 +59,7 @@ pub extern "C" fn read_scheme(card: &[u8], commands: &mut [Command]) -> SchemeRe
 }
 
 // A roster card, read with its scheme into the lent roster.
-#[unsafe(no_mangle)]
-pub extern "C" fn read_roster(
+pub fn read_roster(
     commands: &[Command],
     types: usize,
     kinds: usize,
@@ -76,8 +74,7 @@ pub extern "C" fn read_roster(
 }
 
 // A command by a source person to a destination person, on the design with this code.
-#[unsafe(no_mangle)]
-pub extern "C" fn request(
+pub fn request(
     commands: &[Command],
     types: usize,
     kinds: usize,
@@ -109,8 +106,7 @@ pub extern "C" fn request(
 }
 
 // The requests of a batch card, one after the other, each with its answer.
-#[unsafe(no_mangle)]
-pub extern "C" fn run_batch(
+pub fn run_batch(
     commands: &[Command],
     types: usize,
     kinds: usize,
@@ -130,8 +126,7 @@ pub extern "C" fn run_batch(
 }
 
 // May this person use this right on the design with this code?
-#[unsafe(no_mangle)]
-pub extern "C" fn may_use(
+pub fn may_use(
     commands: &[Command],
     types: usize,
     kinds: usize,
@@ -152,8 +147,7 @@ pub extern "C" fn may_use(
 }
 
 // The access list of the design with this code.
-#[unsafe(no_mangle)]
-pub extern "C" fn access_list(
+pub fn access_list(
     commands: &[Command],
     types: usize,
     kinds: usize,
@@ -171,8 +165,7 @@ pub extern "C" fn access_list(
 }
 
 // What a type of person can ever reach on a design that this create command makes.
-#[unsafe(no_mangle)]
-pub extern "C" fn verdict_of_create(
+pub fn verdict_of_create(
     commands: &[Command],
     types: usize,
     kinds: usize,
@@ -200,8 +193,7 @@ pub extern "C" fn verdict_of_create(
 }
 
 // What a type of person can ever reach on the design with this code, as it stands.
-#[unsafe(no_mangle)]
-pub extern "C" fn verdict_of_design(
+pub fn verdict_of_design(
     commands: &[Command],
     types: usize,
     kinds: usize,
@@ -235,32 +227,28 @@ pub extern "C" fn verdict_of_design(
 }
 
 // The text that the batch program prints for the bytes it has read.
-#[unsafe(no_mangle)]
-pub extern "C" fn batch_text(bytes: &[u8], text: &mut [u8]) -> Text
+pub fn batch_text(bytes: &[u8], text: &mut [u8]) -> Text
     ensures { BatchTextOutcome bytes.now text.old result text.new }
 {
     texts::batch::batch_text(bytes, text)
 }
 
 // The text that the verdict program prints for the bytes it has read.
-#[unsafe(no_mangle)]
-pub extern "C" fn verdict_text(bytes: &[u8], table: &mut [u32], text: &mut [u8]) -> Text
+pub fn verdict_text(bytes: &[u8], table: &mut [u32], text: &mut [u8]) -> Text
     ensures { VerdictTextOutcome bytes.now table.old text.old result table.new text.new }
 {
     texts::verdict::verdict_text(bytes, table, text)
 }
 
 // How many more bytes the batch program must read.
-#[unsafe(no_mangle)]
-pub extern "C" fn batch_wanted(bytes: &[u8]) -> usize
+pub fn batch_wanted(bytes: &[u8]) -> usize
     ensures { BatchWantedOutcome bytes.now result }
 {
     streams::batch_wanted(bytes)
 }
 
 // How many more bytes the verdict program must read.
-#[unsafe(no_mangle)]
-pub extern "C" fn verdict_wanted(bytes: &[u8]) -> usize
+pub fn verdict_wanted(bytes: &[u8]) -> usize
     ensures { VerdictWantedOutcome bytes.now result }
 {
     streams::verdict_wanted(bytes)

@@ -5,7 +5,9 @@
 mod rostered;
 mod schemed;
 
-fn main() {
-    schemed::schemes();
-    rostered::rosters();
+use std::io;
+
+fn main(rt: HostRuntime) -> io::Result<()> {
+    schemed::schemes(&rt)?;
+    rostered::rosters(&rt)
 }

@@ -1,5 +1,6 @@
 // Traps of roster and batch cards: what fills them (1), that 3 comes before 4 and 4 before 5 over the whole roster, and the order of a request's refusals.
 use schemes::{Loaded, empty};
+use std::io;
 use trials::asking::one_create;
 use trials::printing::text;
 use trials::writing::{
@@ -7,26 +8,32 @@ use trials::writing::{
 };
 
 // The roster ends here; a batch of none follows.
-fn ended(name: &[u8], s: &mut [u8], from: usize, at: usize) {
+fn ended(rt: &impl Print, name: &[u8], s: &mut [u8], from: usize, at: usize) -> io::Result<()> {
     let to = close(s, from, at);
     let next = batch(s, to, 0);
     let end = close(s, to, next);
-    text(name, s, end);
+    text(rt, name, s, end)
 }
 
 // A scheme of two types and a roster of one person, whose code is n letters.
-fn person_alone(name: &[u8], t: u8, n: u8) {
+fn person_alone(rt: &impl Print, name: &[u8], t: u8, n: u8) -> io::Result<()> {
     let mut stream = [0u8; 512];
     let s: &mut [u8] = &mut stream;
     let from = scheme(s, empty(2, 1, 1));
     let at = roster(s, from, 1);
     let length = byte(s, at, t);
     let next = long_code(s, length, n);
-    ended(name, s, from, next);
+    ended(rt, name, s, from, next)
 }
 
 // A scheme of two types and a roster that counts so many people and has three: their types, and their codes of one byte.
-fn three_people(name: &[u8], count: u8, types: [u8; 3], codes: [u8; 3]) {
+fn three_people(
+    rt: &impl Print,
+    name: &[u8],
+    count: u8,
+    types: [u8; 3],
+    codes: [u8; 3],
+) -> io::Result<()> {
     let mut stream = [0u8; 256];
     let s: &mut [u8] = &mut stream;
     let from = scheme(s, empty(2, 1, 1));
@@ -34,35 +41,59 @@ fn three_people(name: &[u8], count: u8, types: [u8; 3], codes: [u8; 3]) {
     let a = person(s, at, types[0], &[codes[0]]);
     let b = person(s, a, types[1], &[codes[1]]);
     let c = person(s, b, types[2], &[codes[2]]);
-    ended(name, s, from, c);
+    ended(rt, name, s, from, c)
 }
 
 // Traps 2 and 3.
-fn people() {
-    person_alone(b"T2 code of none: ", 0, 0);
-    person_alone(b"T2 code of 12: ", 0, 12);
-    person_alone(b"T2 code of 13: ", 0, 13);
-    person_alone(b"T2 code of 255: ", 0, 255);
-    person_alone(b"T3 type 1: ", 1, 1);
-    person_alone(b"T3 type 2: ", 2, 1);
-    three_people(b"T3 three codes: ", 3, [0, 0, 1], [b'A', b'B', b'C']);
-    three_people(b"T3 lower case: ", 3, [0, 0, 0], [b'A', b'B', b'a']);
-    three_people(b"T3 one code: ", 3, [0, 0, 1], [b'A', b'B', b'A']);
-    three_people(b"T3 4, then 3: ", 3, [0, 0, 2], [b'-', b'B', b'C']);
-    three_people(b"T3 5, then 3: ", 3, [0, 0, 2], [b'A', b'A', b'C']);
-    three_people(b"T3 5, then 4: ", 3, [0, 0, 0], [b'A', b'A', b'-']);
+fn people(rt: &impl Print) -> io::Result<()> {
+    person_alone(rt, b"T2 code of none: ", 0, 0)?;
+    person_alone(rt, b"T2 code of 12: ", 0, 12)?;
+    person_alone(rt, b"T2 code of 13: ", 0, 13)?;
+    person_alone(rt, b"T2 code of 255: ", 0, 255)?;
+    person_alone(rt, b"T3 type 1: ", 1, 1)?;
+    person_alone(rt, b"T3 type 2: ", 2, 1)?;
+    three_people(rt, b"T3 three codes: ", 3, [0, 0, 1], [b'A', b'B', b'C'])?;
+    three_people(rt, b"T3 lower case: ", 3, [0, 0, 0], [b'A', b'B', b'a'])?;
+    three_people(rt, b"T3 one code: ", 3, [0, 0, 1], [b'A', b'B', b'A'])?;
+    three_people(rt, b"T3 4, then 3: ", 3, [0, 0, 2], [b'-', b'B', b'C'])?;
+    three_people(rt, b"T3 5, then 3: ", 3, [0, 0, 2], [b'A', b'A', b'C'])?;
+    three_people(rt, b"T3 5, then 4: ", 3, [0, 0, 0], [b'A', b'A', b'-'])
 }
 
 // Trap 2: people who don't fill the card are 1, whatever else is wrong.
-fn unfilled() {
-    three_people(b"T2 0 people counted: ", 0, [0, 0, 2], [b'A', b'A', b'-']);
-    three_people(b"T2 2 people counted: ", 2, [0, 0, 2], [b'A', b'A', b'-']);
-    three_people(b"T2 4 people counted: ", 4, [0, 0, 2], [b'A', b'A', b'-']);
-    three_people(b"T2 33 people counted: ", 33, [0, 0, 2], [b'A', b'A', b'-']);
+fn unfilled(rt: &impl Print) -> io::Result<()> {
+    three_people(
+        rt,
+        b"T2 0 people counted: ",
+        0,
+        [0, 0, 2],
+        [b'A', b'A', b'-'],
+    )?;
+    three_people(
+        rt,
+        b"T2 2 people counted: ",
+        2,
+        [0, 0, 2],
+        [b'A', b'A', b'-'],
+    )?;
+    three_people(
+        rt,
+        b"T2 4 people counted: ",
+        4,
+        [0, 0, 2],
+        [b'A', b'A', b'-'],
+    )?;
+    three_people(
+        rt,
+        b"T2 33 people counted: ",
+        33,
+        [0, 0, 2],
+        [b'A', b'A', b'-'],
+    )
 }
 
 // A batch that counts so many requests and has one, a create on a code of n letters; and two more bytes or none.
-fn asked_once(name: &[u8], count: usize, n: u8, more: bool) {
+fn asked_once(rt: &impl Print, name: &[u8], count: usize, n: u8, more: bool) -> io::Result<()> {
     let mut stream = [0u8; 512];
     let s: &mut [u8] = &mut stream;
     let people = scheme(s, one_create());
@@ -73,20 +104,20 @@ fn asked_once(name: &[u8], count: usize, n: u8, more: bool) {
     let next = long_code(s, length, n);
     let last = if more { pair(s, next, 0) } else { next };
     let end = close(s, from, last);
-    text(name, s, end);
+    text(rt, name, s, end)
 }
 
 // Trap 2: a code of any length is read, and answered 4 where it is none or too long; a batch that isn't filled is 1, and nothing of it is done (trap 14).
-fn requests() {
-    asked_once(b"T2 request on none:\n", 1, 0, false);
-    asked_once(b"T2 request on 12:\n", 1, 12, false);
-    asked_once(b"T2 request on 13:\n", 1, 13, false);
-    asked_once(b"T2 request on 255:\n", 1, 255, false);
-    asked_once(b"T2 0 requests counted: ", 0, 1, false);
-    asked_once(b"T2 2 requests counted: ", 2, 1, false);
-    asked_once(b"T2 65,535 requests counted: ", 65535, 1, false);
-    asked_once(b"T2 two bytes more: ", 1, 1, true);
-    asked_once(b"T14 cut short: ", 2, 1, true);
+fn requests(rt: &impl Print) -> io::Result<()> {
+    asked_once(rt, b"T2 request on none:\n", 1, 0, false)?;
+    asked_once(rt, b"T2 request on 12:\n", 1, 12, false)?;
+    asked_once(rt, b"T2 request on 13:\n", 1, 13, false)?;
+    asked_once(rt, b"T2 request on 255:\n", 1, 255, false)?;
+    asked_once(rt, b"T2 0 requests counted: ", 0, 1, false)?;
+    asked_once(rt, b"T2 2 requests counted: ", 2, 1, false)?;
+    asked_once(rt, b"T2 65,535 requests counted: ", 65535, 1, false)?;
+    asked_once(rt, b"T2 two bytes more: ", 1, 1, true)?;
+    asked_once(rt, b"T14 cut short: ", 2, 1, true)
 }
 
 // Two types, two kinds, two rights: a create, an internal and a grant of kind 0, a create and an internal of kind 1.
@@ -140,7 +171,7 @@ fn three(s: &mut [u8], from: usize) -> usize {
 }
 
 // Trap 4: the order of a request's refusals.
-fn in_order() {
+fn in_order(rt: &impl Print) -> io::Result<()> {
     let mut stream = [0u8; 512];
     let s: &mut [u8] = &mut stream;
     let people = scheme(s, orders());
@@ -148,13 +179,13 @@ fn in_order() {
     let at = batch(s, from, 17);
     let next = listed(s, at, REQUESTS);
     let end = close(s, from, next);
-    text(b"T4:\n", s, end);
+    text(rt, b"T4:\n", s, end)
 }
 
 // All of them.
-pub fn rosters() {
-    people();
-    unfilled();
-    requests();
-    in_order();
+pub fn rosters(rt: &impl Print) -> io::Result<()> {
+    people(rt)?;
+    unfilled(rt)?;
+    requests(rt)?;
+    in_order(rt)
 }

@@ -3,6 +3,7 @@ use crate::printing::verdict;
 use crate::writing::{line, with};
 use model::Command;
 use schemes::{Loaded, empty};
+use std::io;
 use verdicts::calls::{verdict_of_create, verdict_of_design};
 
 // A scheme of the mill: three types, one kind, eight rights and seven commands.
@@ -43,23 +44,31 @@ pub fn scheme_c() -> Loaded {
 }
 
 // The verdict of a create command, with room for a budget of 2,049.
-pub fn asked(name: &[u8], l: Loaded, c: usize, t: usize, right: usize, budget: usize) {
+pub fn asked(
+    rt: &impl Print,
+    name: &[u8],
+    l: Loaded,
+    c: usize,
+    t: usize,
+    right: usize,
+    budget: usize,
+) -> io::Result<()> {
     let mut table = [0u32; 16392];
     let v = verdict_of_create(
         l, l.types, l.kinds, l.rights, c, t, right, budget, &mut table,
     );
-    verdict(name, v);
+    verdict(rt, name, v)
 }
 
 // The verdict of A for the designer's release, with a table of so many words.
-pub fn asked_in(name: &[u8], budget: usize, words: usize) {
+pub fn asked_in(rt: &impl Print, name: &[u8], budget: usize, words: usize) -> io::Result<()> {
     if 16392 < words {
-        return;
+        return Ok(());
     }
     let mut table = [0u32; 16392];
     let part = &mut table[..words];
     let v = verdict_of_create(scheme_a(), 3, 1, 8, 0, 0, 7, budget, part);
-    verdict(name, v);
+    verdict(rt, name, v)
 }
 
 // A scheme of one create with Z = 01.
@@ -90,7 +99,15 @@ fn mill_people() -> [u32; 128] {
 }
 
 // The verdict of a stored design, by a code of one byte, asked for the designer: there is W, on which the lab's two people hold these rights.
-pub fn design_asked(name: &[u8], l: Loaded, labs: [u32; 2], code: u8, right: usize, budget: usize) {
+pub fn design_asked(
+    rt: &impl Print,
+    name: &[u8],
+    l: Loaded,
+    labs: [u32; 2],
+    code: u8,
+    right: usize,
+    budget: usize,
+) -> io::Result<()> {
     let people = mill_people();
     let mut store = [0u32; 2305];
     store[0] = 1;
@@ -112,5 +129,5 @@ pub fn design_asked(name: &[u8], l: Loaded, labs: [u32; 2], code: u8, right: usi
         budget,
         &mut table,
     );
-    verdict(name, v);
+    verdict(rt, name, v)
 }

@@ -5,13 +5,14 @@
 ghost use Rattle.std.specs.Prelude.{◌≤◌, ◌≡◌, length};
 
 use input::read_some;
-use libc::STDOUT_FILENO;
+use std::io;
+use std::io::Read;
 
 // The most bytes of a card.
 const MOST_STREAM: usize = 65536;
 
 // Reads the card, and no byte more; how many bytes it has.
-fn read_card(stream: &mut [u8]) -> usize
+fn read_card<R: Read>(input: &mut R, stream: &mut [u8]) -> usize
     requires { 65536 ≡ length stream.old }
     ensures { result ≤ 65536 }
 {
@@ -22,7 +23,7 @@ fn read_card(stream: &mut [u8]) -> usize
             break;
         }
         let end = n + wanted;
-        let got = read_some(&mut stream[n..end]);
+        let got = read_some(input, &mut stream[n..end]);
         if got == 0 {
             break;
         }
@@ -31,11 +32,11 @@ fn read_card(stream: &mut [u8]) -> usize
     n
 }
 
-fn main() {
+fn main(rt: HostRuntime) -> io::Result<()> {
     let mut stream = [0u8; 65536];
     let mut table = [0u32; 16384];
     let mut text = [0u8; 7488];
-    let n = read_card(&mut stream);
+    let n = read_card(&mut rt.stdin(), &mut stream);
     let printed = ribalonga::verdict_text(&stream[..n], &mut table, &mut text);
-    io::write_all(STDOUT_FILENO, &text[..printed.bytes]);
+    rt.write_all(&text[..printed.bytes])
 }
