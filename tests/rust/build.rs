@@ -20,7 +20,7 @@ fn main() {
     if !archive.is_file() {
         eprintln!();
         eprintln!("The archive of the library is missing: {}", archive.display());
-        eprintln!("Build it in the root of the repository:   rt staticlib ribalonga");
+        eprintln!("Build it in the root of the repository:   tools/archive");
         eprintln!("or name the folder that has it:           RIBALONGA_LIB=/some/folder");
         eprintln!("or leave out the feature `linked`, and only the model is built and tested.");
         eprintln!();
