@@ -97,15 +97,10 @@ pub fn text(rt: &impl Print, name: &[u8], s: &[u8], n: usize) -> io::Result<()> 
 
 // Where the last line of a text begins, that ends at a place.
 fn last_line(text: &[u8], end: usize) -> usize {
-    let mut from = end;
-    while 1 < from {
-        let before = from - 2;
-        if before < text.len() {
-            if text[before] == b'\n' {
-                return from - 1;
-            }
+    for from in (1..end).rev() {
+        if from <= text.len() && text[from - 1] == b'\n' {
+            return from;
         }
-        from -= 1;
     }
     0
 }

@@ -29,10 +29,8 @@ fn word(s: &mut [u8], at: usize, n: u32) -> usize {
 // The bytes of a code.
 fn bytes(s: &mut [u8], at: usize, code: &[u8]) -> usize {
     let mut end = at;
-    let mut i = 0;
-    while i < code.len() {
-        end = byte(s, end, code[i]);
-        i += 1;
+    for b in code {
+        end = byte(s, end, *b);
     }
     end
 }
@@ -40,10 +38,8 @@ fn bytes(s: &mut [u8], at: usize, code: &[u8]) -> usize {
 // So many letters A.
 fn letters(s: &mut [u8], at: usize, n: usize) -> usize {
     let mut end = at;
-    let mut i = 0;
-    while i < n {
+    for _ in 0..n {
         end = byte(s, end, b'A');
-        i += 1;
     }
     end
 }
@@ -130,10 +126,8 @@ fn command_in(l: Loaded, i: usize) -> Command {
 // The card of a scheme, which begins the stream.
 pub fn scheme(s: &mut [u8], l: Loaded) -> usize {
     let mut end = counts(s, l);
-    let mut i = 0;
-    while i < l.count {
+    for i in 0..l.count {
         end = command(s, end, command_in(l, i));
-        i += 1;
     }
     close(s, 0, end)
 }
@@ -159,10 +153,8 @@ fn code_of(i: usize) -> [u8; 2] {
 // So many people of type 0, each with a code of its own.
 pub fn people(s: &mut [u8], at: usize, n: usize) -> usize {
     let mut end = at;
-    let mut i = 0;
-    while i < n {
+    for i in 0..n {
         end = person(s, end, 0, &code_of(i));
-        i += 1;
     }
     end
 }
@@ -185,10 +177,8 @@ pub fn asks(s: &mut [u8], at: usize, who: [u8; 3], code: &[u8]) -> usize {
 // The same request, n times: command 0 by person 0 on this code.
 pub fn same(s: &mut [u8], at: usize, code: &[u8], n: usize) -> usize {
     let mut end = at;
-    let mut i = 0;
-    while i < n {
+    for _ in 0..n {
         end = asks(s, end, [0, 0, 0], code);
-        i += 1;
     }
     end
 }
@@ -196,10 +186,8 @@ pub fn same(s: &mut [u8], at: usize, code: &[u8], n: usize) -> usize {
 // So many requests for command 0 by person 0, each on a code of its own.
 pub fn creates(s: &mut [u8], at: usize, n: usize) -> usize {
     let mut end = at;
-    let mut i = 0;
-    while i < n {
+    for i in 0..n {
         end = asks(s, end, [0, 0, 0], &code_of(i));
-        i += 1;
     }
     end
 }
@@ -212,11 +200,8 @@ fn entry(s: &mut [u8], at: usize, r: [u8; 4]) -> usize {
 // The requests of a list.
 pub fn listed(s: &mut [u8], at: usize, list: [[u8; 4]; 17]) -> usize {
     let mut end = at;
-    let mut i = 0;
-    while i < 17 {
-        let r = list[i];
+    for r in list {
         end = entry(s, end, r);
-        i += 1;
     }
     end
 }
