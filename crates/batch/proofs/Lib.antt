@@ -1,0 +1,2 @@
+-- What the library's contracts say of the program's rooms.
+pub mod Rooms

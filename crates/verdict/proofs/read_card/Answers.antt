@@ -1,0 +1,14 @@
+-- What is wanted behind the bytes that were read ends within the stream.
+use Rattle.std.proofs.Common.{arith, rules, ◌≤◌, ◌+◌}
+use Rattle.verdict.proofs.Rooms.{wanted_fits}
+use Rattle.verdict.proofs.read_card.Goals as goal
+
+pub overflow_add-end : goal.overflow_add-end
+overflow_add-end g c =
+    let fits : c.loop-n.n + c.verdict_wanted-wanted.result ≤ 65536 = wanted_fits _ _ c.verdict_wanted-wanted.ensures (omega arith) c.loop-n.invariant in
+    omega arith
+
+pub slice_bounds-read_some-end : goal.slice_bounds-read_some-end
+slice_bounds-read_some-end g c =
+    let fits : c.loop-n.n + c.verdict_wanted-wanted.result ≤ 65536 = wanted_fits _ _ c.verdict_wanted-wanted.ensures (omega arith) c.loop-n.invariant in
+    search rules
