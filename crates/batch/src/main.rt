@@ -2,7 +2,8 @@
 // library gives for them. It reads, calls and writes; what it prints is proved of `batch_text`.
 #![tactic(auto)]
 
-ghost use Rattle.std.specs.Prelude.{◌≤◌, ◌≡◌, length};
+ghost use Rattle.std.specs.Prelude.{◌≤◌, ◌≡◌, length, take};
+ghost use Rattle.std.specs.Io.KnownBytes.{Consumes};
 
 use input::read_some;
 use std::io;
@@ -11,10 +12,11 @@ use std::io::Read;
 // The most bytes of three cards.
 const MOST_STREAM: usize = 196608;
 
-// Reads the cards, and no byte more; how many bytes they have.
+// Reads the cards, and no byte more; how many bytes they have. They are those that the input had first, and it has lost no others.
 fn read_cards<R: Read>(input: &mut R, stream: &mut [u8]) -> usize
     requires { 196608 ≡ length stream.old }
-    ensures { result ≤ 196608 }
+    ensures count { result ≤ 196608 }
+    ensures bytes { Consumes (R.remaining input.old) (R.remaining input.new) (take result stream.new) }
 {
     let mut n = 0;
     while n < MOST_STREAM {

@@ -2,7 +2,8 @@
 // writes; what it prints is proved of `verdict_text`.
 #![tactic(auto)]
 
-ghost use Rattle.std.specs.Prelude.{◌≤◌, ◌≡◌, length};
+ghost use Rattle.std.specs.Prelude.{◌≤◌, ◌≡◌, length, take};
+ghost use Rattle.std.specs.Io.KnownBytes.{Consumes};
 
 use input::read_some;
 use std::io;
@@ -11,10 +12,11 @@ use std::io::Read;
 // The most bytes of a card.
 const MOST_STREAM: usize = 65536;
 
-// Reads the card, and no byte more; how many bytes it has.
+// Reads the card, and no byte more; how many bytes it has. They are those that the input had first, and it has lost no others.
 fn read_card<R: Read>(input: &mut R, stream: &mut [u8]) -> usize
     requires { 65536 ≡ length stream.old }
-    ensures { result ≤ 65536 }
+    ensures count { result ≤ 65536 }
+    ensures bytes { Consumes (R.remaining input.old) (R.remaining input.new) (take result stream.new) }
 {
     let mut n = 0;
     while n < MOST_STREAM {

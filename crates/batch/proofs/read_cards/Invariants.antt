@@ -1,9 +1,13 @@
--- The bytes read are within the stream's room, and each turn reads some byte.
-use Rattle.std.proofs.Common.{◌-◌, ◌≤◌}
+-- The bytes read are within the stream's room and are those that the input has lost, and each turn reads some byte.
+use Rattle.std.proofs.Common.{◌-◌, ◌≤◌, take}
+use Rattle.std.specs.Io.KnownBytes.{Consumes}
 use Rattle.batch.proofs.read_cards.Given as goal
 
 abbrev pub invariant-loop-n : goal.invariant-loop-n
-invariant-loop-n g l = l.n ≤ 196608
+invariant-loop-n g l = record {
+  within : l.n ≤ 196608;
+  read : Consumes (g.R.Read.remaining l.initial.input) (g.R.Read.remaining l.input) (take l.n l.stream);
+}
 
 abbrev pub decreases-loop-n : goal.decreases-loop-n
 decreases-loop-n g l = 196608 - l.n

@@ -1,0 +1,2 @@
+-- What a loop of reads keeps.
+pub mod Reading
