@@ -4,9 +4,7 @@ use Rattle.std.specs.Prelude.{ℕ, Bool, not, ◌&&◌, List, leb, length, take}
 use Rattle.model.specs.Words.{◌when◌else◌}
 use Rattle.model.specs.Cards.{entry_size, request_of_entry}
 use Rattle.cards.specs.declared.entries.Entry.{Entry}
-use Rattle.cards.specs.declared.entries.Entry.TheVariants as Entry
 use Rattle.cards.specs.declared.batch.Next.{Next}
-use Rattle.cards.specs.declared.batch.Next.TheVariants as Next
 
 -- an entry stands whole at the beginning of the rest
 unfoldable pub is_whole : ℕ → List ℕ → Bool

@@ -71,8 +71,8 @@ pub is_accepted : (h : Handed) (b : Bool) → b ≡ has_rooms h → not b ≡ fa
 is_accepted h b eb e n en z = record { rooms = sym eb ∙ not-false b e; number = sym en ∙ z }
 
 pub record Sized (h : Handed) : Type 0 where
-  pub roster_room_lem : roster_room ≤ length h.roster
-  pub store_room_lem : store_room ≤ length h.store
+  pub roster_wide : roster_room ≤ length h.roster
+  pub store_wide : store_room ≤ length h.store
   pub commands : length h.scheme.commands ≤ 64
   pub rights : h.scheme.rights ≤ 32
   pub people : h.count ≤ 32
@@ -82,8 +82,8 @@ pub sized : (h : Handed) → Accepted h → Sized h
 sized h a =
     let scheme = handed_scheme h a.number in
     record {
-      roster_room_lem = (rooms h a.rooms).0;
-      store_room_lem = (rooms h a.rooms).1;
+      roster_wide = (rooms h a.rooms).0;
+      store_wide = (rooms h a.rooms).1;
       commands = scheme.commands_few;
       rights = scheme.rights_are.1;
       people = omega (arith, handed_people h a.number, roster_length h.count h.roster);

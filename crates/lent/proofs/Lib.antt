@@ -1,8 +1,2 @@
--- The rules and laws behind the proofs of this crate, and behind every door of another.
+-- The laws behind the proofs of this crate, and behind every call that loads a lent list.
 pub mod Loads
-pub mod Walk
-pub mod Arrays
-pub mod Rows
-pub mod Pars
-pub mod Doors
-pub mod Fills

@@ -11,6 +11,7 @@ use Rattle.model.specs.declared.Command.{Command}
 use Rattle.model.specs.Words.{written_over}
 use Rattle.model.specs.Schemes.{no_command, command_in}
 use Rattle.laws.proofs.Lists.{length-written, written_snoc}
+use Rattle.schemes.specs.declared.Loaded.{Loaded}
 use Rattle.schemes.specs.Loads.{loaded_from}
 use Rattle.lent.specs.Loads.{loaded_of}
 
@@ -32,6 +33,12 @@ pub loaded_whole : (cs : List Command) (i : ℕ) → i ≡ min (length cs) 64
 unfolding loaded_of loaded_from
 loaded_whole cs i e = ap (λ (zs : List Command). record { types = 0; kinds = 0; rights = 0; count = length cs; commands = written_over zs (replicate 64 no_command) })
     (sym (take-take i 64 cs (omega (arith, e))) ∙ take_all i (take 64 cs) (omega (arith, e, length-take 64 cs)))
+
+-- the same, by its fields
+pub loaded_by : (l : Loaded) (cs : List Command) (i : ℕ) → i ≡ min (length cs) 64
+    → l.types ≡ 0 → l.kinds ≡ 0 → l.rights ≡ 0 → l.count ≡ length cs → l.commands ≡ written_over (take i cs) (replicate 64 no_command)
+    → l ≡ loaded_of cs
+loaded_by l cs i e types kinds rights count commands = rw (types, kinds, rights, count, commands) (loaded_whole cs i e)
 
 -- ---- commands that are written from a list's beginning
 

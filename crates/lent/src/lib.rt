@@ -1,6 +1,5 @@
-// The lent list of a scheme's commands: the two functions that read and write it. Each is proved by hand, since the borrow checker
-// covers no slice of structs. A public call loads the list into a scheme by value and goes on with that, and its proof is one line
-// over proofs/Doors.antt; the call that fills the list is over proofs/Fills.antt. Inner functions: none is offered outside.
+// The lent list of a scheme's commands: the two functions that read and write it. A public call loads the list into a scheme by
+// value and goes on with that; the call that fills the list writes it from one. Inner functions: none is offered outside.
 #![tactic(auto)]
 
 ghost use Rattle.std.specs.Prelude.{◌≡◌, ◌≤◌, length, take};

@@ -6,5 +6,3 @@ pub mod Expanding
 pub mod Searching
 pub mod Firsts
 pub mod Duplicated
-pub mod Handed
-pub mod Lent

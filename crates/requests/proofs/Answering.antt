@@ -29,7 +29,7 @@ use Rattle.requests.proofs.Deciding.{no_command_lem, command_decides}
 pub stands : (h : Handed) → Accepted h → Stands h.count h.roster h.store
 stands h a =
     let sizes = sized h a in
-    record { few_people = sizes.people; roster_room_lem = sizes.roster_room_lem; store_room_lem = sizes.store_room_lem; few_designs = sizes.designs }
+    record { few_people = sizes.people; roster_wide = sizes.roster_wide; store_wide = sizes.store_wide; few_designs = sizes.designs }
 
 module _ (h : Handed) (q : Request) (a : Accepted h) (fit : Words h.store) where
   lent : Lent h.store
@@ -58,7 +58,7 @@ module _ (h : Handed) (q : Request) (a : Accepted h) (fit : Words h.store) where
     pub allowed : n ≡ 0 → Allowed c h.store q.source q.destination q.code
     allowed z =
         let sizes = sized h a in
-        record { people = people_in h; most = handed_people h a.number; number = sym en ∙ z; designs = sizes.designs; room = sizes.store_room_lem }
+        record { people = people_in h; most = handed_people h a.number; number = sym en ∙ z; designs = sizes.designs; room = sizes.store_wide }
 
     pub done : n ≡ 0 → (after : List ℕ)
         → after ≡ store_words (carried_out c (designs_in h) (request_from 0 q.source q.destination q.code)) h.store → Answered h q 0 after

@@ -22,7 +22,6 @@ use Rattle.laws.proofs.Stores.{Words, words_of_store, store_words_length}
 use Rattle.laws.proofs.Requests.{numbers_length}
 use Rattle.laws.proofs.Kept.{Good, good_batched, good_zero, roster_length, meaning_batched, batch_step, number_step, handed_scheme, handed_good, handed_lent}
 use Rattle.cards.specs.declared.batch.Next.{Next}
-use Rattle.cards.specs.declared.batch.Next.TheVariants as Next
 use Rattle.cards.specs.Entries.{is_whole, next_of}
 use Rattle.cards.proofs.Filling.{whole_fits}
 use Rattle.cards.proofs.Places.{next_whole, request_in_lem}
@@ -110,7 +109,7 @@ module _ (h : Handed) (a : Accepted h) (fit : Words h.store) where
   still_roomy qs =
       let g = good_after qs in
       let s = sized h a in
-      simp passed (s.roster_room_lem, rw (store_words_length (after qs) h.store g.celled g.check.few s.store_room_lem) s.store_room_lem)
+      simp passed (s.roster_wide, rw (store_words_length (after qs) h.store g.celled g.check.few s.store_wide) s.store_wide)
 
   still_zero : (qs : List Request) → handed_number (with_store_lem h (store_words (after qs) h.store)) ≡ 0
   unfolding handed_number
@@ -162,7 +161,7 @@ module _ (h : Handed) (a : Accepted h) (fit : Words h.store) (rest : List ℕ) (
     pub store_kept : length store ≡ length h.store
     store_kept =
         let g = good_after h a fit (take i qs) in
-        ap length ran.so_far.store_is ∙ store_words_length (after h a fit (take i qs)) h.store g.celled g.check.few (sized h a).store_room_lem
+        ap length ran.so_far.store_is ∙ store_words_length (after h a fit (take i qs)) h.store g.celled g.check.few (sized h a).store_wide
 
     pub answers_kept : n ≤ length answers → length now ≡ length answers
     answers_kept room = ap length ran.so_far.answers_are ∙ length-written (numbers_to i) answers (omega (arith, numbered, ran.count))

@@ -12,6 +12,7 @@ use Rattle.model.specs.declared.Command.{Command}
 use Rattle.model.specs.Schemes.{scheme_is_valid, scheme_number}
 use Rattle.model.specs.Outcomes.{scheme_from}
 use Rattle.laws.proofs.Invalid.{AsOne}
+use Rattle.schemes.specs.declared.Loaded.{Loaded}
 use Rattle.schemes.specs.Loads.{scheme_in, loaded_from}
 use Rattle.schemes.proofs.Loads.{loaded_stands, loaded_valid}
 use Rattle.schemes.proofs.Rules.{long}
@@ -29,3 +30,8 @@ as_one commands types kinds rights =
     (λ many.
     let bad : scheme_is_valid s ≡ false = long s (omega arith) in
     inr (rw (same, loaded_valid s, bad), rw bad))
+
+-- the same of what the loading call answered
+pub loaded_as_one : (l : Loaded) (commands : List Command) → l ≡ loaded_of commands → (types kinds rights : ℕ)
+    → AsOne (scheme_in (counted_by l types kinds rights)) (scheme_from commands types kinds rights)
+loaded_as_one l commands e types kinds rights = rw e (as_one commands types kinds rights)

@@ -9,6 +9,7 @@ ghost use Rattle.model.specs.Rights.{has, within, without, with_those, common, m
 use model::Command;
 
 // Every right of x is in s.
+#[tactic(auto, unfolding(model::specs::Rights::within))]
 pub fn within(x: u32, s: u32) -> bool
     ensures { result ≡ within x s }
 {
@@ -16,6 +17,7 @@ pub fn within(x: u32, s: u32) -> bool
 }
 
 // The rights of s that are not in y: what a command takes.
+#[tactic(auto, unfolding(model::specs::Rights::without))]
 pub fn without(s: u32, y: u32) -> u32
     ensures { result ≡ without s y }
 {
@@ -23,6 +25,7 @@ pub fn without(s: u32, y: u32) -> u32
 }
 
 // The rights of s with those of z: what a command enters.
+#[tactic(auto, unfolding(model::specs::Rights::with_those))]
 pub fn with_those(s: u32, z: u32) -> u32
     ensures { result ≡ with_those s z }
 {
@@ -30,6 +33,7 @@ pub fn with_those(s: u32, z: u32) -> u32
 }
 
 // The rights that are in both sets.
+#[tactic(auto, unfolding(model::specs::Rights::common))]
 pub fn common(s: u32, t: u32) -> u32
     ensures { result ≡ common s t }
 {
@@ -37,6 +41,7 @@ pub fn common(s: u32, t: u32) -> u32
 }
 
 // The two sets share a right.
+#[tactic(auto, unfolding(model::specs::Rights::meets))]
 pub fn meets(s: u32, t: u32) -> bool
     ensures { result ≡ meets s t }
 {
@@ -44,6 +49,7 @@ pub fn meets(s: u32, t: u32) -> bool
 }
 
 // The set holds the right with this number.
+#[tactic(auto, unfolding(model::specs::Rights::has, model::specs::Rights::bit))]
 pub fn has(s: u32, right: usize) -> bool
     requires { right < 32 }
     ensures { result ≡ has s right }
@@ -52,6 +58,7 @@ pub fn has(s: u32, right: usize) -> bool
 }
 
 // The set holds only rights below a scheme's count of them. All 32 rights want a bit more than a set has: so 64 bits.
+#[tactic(auto, unfolding(model::specs::Rights::fits_rights))]
 pub fn fits_rights(s: u32, rights: usize) -> bool
     requires { rights ≤ 32 }
     ensures { result ≡ fits_rights rights s }
@@ -74,6 +81,7 @@ pub fn after_gain(c: Command, cell: u32) -> u32
 }
 
 // The one cell of an internal, or of a grant to oneself: the loss comes first, then the gain.
+#[tactic(auto, unfolding(model::specs::Rights::with_those))]
 pub fn stepped(c: Command, cell: u32) -> u32
     ensures { result ≡ with_those (without cell c.y) c.z }
 {

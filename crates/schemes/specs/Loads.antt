@@ -1,6 +1,6 @@
 -- The scheme that a loaded one stands for, and what a whole scheme is, loaded.
 -- Assumes nothing.
-use Rattle.std.specs.Prelude.{ℕ, ◌+◌, ◌-◌, List, ◌++◌, length, take, replicate}
+use Rattle.std.specs.Prelude.{ℕ, ◌-◌, List, ◌++◌, length, take, replicate}
 use Rattle.model.specs.declared.Command.{Command}
 use Rattle.model.specs.Words.{written_over}
 use Rattle.model.specs.Sizes.{most_commands}

@@ -65,6 +65,7 @@ fn is_within_counts(types: usize, kinds: usize, c: Command) -> bool
 }
 
 // X, Y and Z, put together, have no right at or above the scheme's count.
+#[tactic(auto, using(laws::proofs::Bits::fits_with))]
 fn sets_fit(rights: usize, c: Command) -> bool
     requires { rights ≤ 32 }
     ensures { result ≡ (fits_rights rights c.x && fits_rights rights c.y && fits_rights rights c.z) }
@@ -96,6 +97,7 @@ fn asks_nothing(c: Command) -> bool
 }
 
 // The command keeps the rules of a scheme with these counts.
+#[tactic(auto, unfolding(model::specs::Schemes::command_is_valid))]
 pub fn command_is_valid(types: usize, kinds: usize, rights: usize, c: Command) -> bool
     requires { rights ≤ 32 }
     ensures { result ≡ command_is_valid types kinds rights c }
@@ -113,6 +115,7 @@ pub fn command_is_valid(types: usize, kinds: usize, rights: usize, c: Command) -
 }
 
 // The command at a place of the scheme.
+#[tactic(auto, using(crate::proofs::Loads::listed_at))]
 pub fn command_of(l: Loaded, i: usize) -> Command
     requires { (i < l.count) × (l.count ≤ 64) }
     ensures { result ≡ command_at (scheme_in l) i }
@@ -137,6 +140,7 @@ fn all_valid(l: Loaded) -> bool
 }
 
 // The scheme keeps its sizes, and its commands the rules.
+#[tactic(auto, unfolding(model::specs::Schemes::scheme_is_valid))]
 pub fn is_valid(l: Loaded) -> bool
     ensures { result ≡ scheme_is_valid (scheme_in l) }
 {
@@ -156,6 +160,7 @@ pub fn is_valid(l: Loaded) -> bool
 }
 
 // A scheme with these counts and no command yet.
+#[tactic(auto, unfolding(crate::specs::Loads::unloaded))]
 pub fn empty(types: usize, kinds: usize, rights: usize) -> Loaded
     ensures { result ≡ unloaded types kinds rights }
 {

@@ -7,8 +7,8 @@ use Rattle.model.specs.Stores.{Design, no_design, store_of}
 -- both have their room, and their counts are in range
 pub record Stands (people : ℕ) (roster store : List ℕ) : Type 0 where
   pub few_people : people ≤ most_people
-  pub roster_room_lem : roster_room ≤ length roster
-  pub store_room_lem : store_room ≤ length store
+  pub roster_wide : roster_room ≤ length roster
+  pub store_wide : store_room ≤ length store
   pub few_designs : length (store_of store) ≤ most_designs
 
 -- and the design is there

@@ -62,7 +62,7 @@ module _ (s : Scheme) (count : ℕ) (roster store card answers : List ℕ) where
   pub record Fresh : Type 0 where
     pub scheme : scheme_number s ≡ 0
     pub roster_is : roster_number s.types people ≡ 0
-    pub roster_room_lem : 128 ≤ length roster
+    pub roster_wide : 128 ≤ length roster
     pub empty : get_or store 0 0 ≡ 0
     pub store_long : length store ≡ 2305
     pub answers_long : length answers ≡ 256
@@ -83,7 +83,7 @@ module _ (s : Scheme) (count : ℕ) (roster store card answers : List ℕ) where
     run_number : run_batch_number handed card answers ≡ batch_card_number card
     unfolding run_batch_number has_rooms
     run_number =
-        rw (le-leb 128 (length roster) fresh.roster_room_lem, fresh.store_long, fresh.answers_long, handed_zero) (then_zero (batch_card_number card))
+        rw (le-leb 128 (length roster) fresh.roster_wide, fresh.store_long, fresh.answers_long, handed_zero) (then_zero (batch_card_number card))
 
     -- the designs that it leaves
     left_good : Good s people designs
@@ -125,8 +125,8 @@ module _ (s : Scheme) (count : ℕ) (roster store card answers : List ℕ) where
             let long = store_words_length designs store left.celled left.check.few (omega (arith, fresh.store_long)) in
             record {
               few_people = omega (arith, (valid_roster s.types people fresh.roster_is).few, roster_length count roster);
-              roster_room_lem = fresh.roster_room_lem;
-              store_room_lem = rw store_is (omega (arith, long, fresh.store_long));
+              roster_wide = fresh.roster_wide;
+              store_wide = rw store_is (omega (arith, long, fresh.store_long));
               few_designs = rw designs_are left.check.few;
             }
 

@@ -1,0 +1,11 @@
+-- `ribalonga::access_list` meets its contract as `questions::access_list` does: a loaded scheme is one with the lent list. Assumes nothing.
+use Rattle.model.specs.Outcomes.{scheme_from}
+use Rattle.laws.proofs.Invalid.{access_list_as_one}
+use Rattle.ribalonga.proofs.Loaded.{loaded_as_one}
+use Rattle.ribalonga.proofs.access_list.Goals as goal
+
+pub returns : goal.returns
+returns c =
+    let a = c.args in
+    access_list_as_one _ (scheme_from a.commands.now a.types a.kinds a.rights) (loaded_as_one c.load-l.result a.commands.now c.load-l.ensures a.types a.kinds a.rights)
+    a.roster.now a.people a.store.now a.code.now a.list.now _ _ c.access_list.ensures
