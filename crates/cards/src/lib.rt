@@ -30,6 +30,7 @@ pub fn number_at(bytes: &[u8], at: usize) -> usize
 }
 
 // The bytes are a card: its version, and its length as it is written.
+#[tactic(auto, using(crate::proofs::Filling::short_card, crate::proofs::Filling::long_card, crate::proofs::Filling::sized_card))]
 pub fn is_card(card: &[u8]) -> bool
     ensures { result ≡ is_card card.now }
 {

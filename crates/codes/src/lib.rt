@@ -36,7 +36,11 @@ fn all_code_bytes(code: &[u8]) -> bool
     true
 }
 
+// The most bytes of a code.
+const MOST_CODE: usize = 12;
+
 // The bytes are a code: one to twelve, all of them a code's, and no hyphen at an end.
+#[tactic(auto, unfolding(model::specs::Codes::spelled))]
 pub fn spelled(code: &[u8]) -> bool
     ensures { result ≡ spelled code.now }
 {
@@ -44,7 +48,7 @@ pub fn spelled(code: &[u8]) -> bool
     if n == 0 {
         return false;
     }
-    if 12 < n {
+    if MOST_CODE < n {
         return false;
     }
     if !all_code_bytes(code) {

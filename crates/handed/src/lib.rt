@@ -44,6 +44,7 @@ pub fn has_rooms(roster: &[u32], store: &[u32]) -> bool
 }
 
 // The number of what is handed over: the scheme's, then the roster's, then the store's. The count of people can be any number until this is asked.
+#[tactic(auto, using(crate::proofs::Numbers::scheme_refused, crate::proofs::Numbers::roster_refused))]
 pub fn handed_number(l: Loaded, people: usize, roster: &[u32], store: &[u32]) -> u8
     requires { (roster_room ≤ length roster.now) × (store_room ≤ length store.now) }
     ensures { result ≡ handed_number (handed_by l people roster.now store.now) }

@@ -50,6 +50,7 @@ fn who_number(c: Command, people: usize, roster: &[u32], source: usize, destinat
 }
 
 // A create: the code is new (10), and there is room for it (11).
+#[tactic(auto, unfolding(model::specs::Requests::create_number))]
 fn create_number(store: &[u32], code: &[u8]) -> u8
     requires { (store_room ≤ length store.now) × (length (store_of store.now) ≤ 64) × (spelled code.now ≡ true) }
     ensures { result ≡ create_number (store_of store.now) code.now }
@@ -84,6 +85,7 @@ fn other_number(c: Command, store: &[u32], source: usize, code: &[u8]) -> u8
 }
 
 // The number of a request by a command that is there.
+#[tactic(auto, using(crate::proofs::Deciding::who_refused, crate::proofs::Deciding::misspelled))]
 pub fn command_number(
     c: Command,
     people: usize,

@@ -48,6 +48,7 @@ fn some_type_out(types: usize, count: usize, roster: &[u32]) -> bool
 }
 
 // The count of people, or a type by the scheme's count of them, is out of range. The count can be any number until this is asked.
+#[tactic(auto, using(crate::proofs::Numbers::out_empty, crate::proofs::Numbers::out_long, crate::proofs::Numbers::out_by_types))]
 fn out_of_range(types: usize, count: usize, roster: &[u32]) -> bool
     requires { 128 ≤ length roster.now }
     ensures { result ≡ out_of_range types (roster_of count roster.now) }
@@ -62,6 +63,7 @@ fn out_of_range(types: usize, count: usize, roster: &[u32]) -> bool
 }
 
 // The number of a roster: 3 for its count and its types, 4 for a code's spelling, 5 for two codes that are the same, and 0.
+#[tactic(auto, using(crate::proofs::Numbers::few, crate::proofs::Numbers::range_refused, crate::proofs::Numbers::spelling_refused, crate::proofs::Numbers::same_refused, crate::proofs::Numbers::roster_accepted))]
 pub fn roster_number(types: usize, count: usize, roster: &[u32]) -> u8
     requires { 128 ≤ length roster.now }
     ensures { result ≡ roster_number types (roster_of count roster.now) }

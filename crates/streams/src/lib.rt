@@ -12,6 +12,7 @@ use handed::ROSTER_ROOM;
 use readers::roster_on;
 
 // How many more bytes the card that begins the stream wants: none once it is whole, or refused by its version or length already.
+#[tactic(auto, unfolding(model::specs::Lines::card_wanted))]
 pub fn card_wanted(stream: &[u8]) -> usize
     ensures { result ≡ card_wanted stream.now }
 {

@@ -1,10 +1,11 @@
 -- `ribalonga::scheme_filled` meets its contract: 20, then the card's number, and else the card's commands. Assumes nothing.
+use native.Mathlib.Omega.{arith}
 use Rattle.ribalonga.proofs.Filling.{no_room, refused_card, whole_scheme}
 use Rattle.ribalonga.proofs.scheme_filled.Goals as goal
 
 pub returns-then-room-lt-MOST_COMMANDS : goal.returns-then-room-lt-MOST_COMMANDS
 returns-then-room-lt-MOST_COMMANDS c =
-    no_room c.args.card.now c.args.room c.unfilled.result c.unfilled.ensures c.if-room-lt-MOST_COMMANDS.true
+    no_room c.args.card.now c.args.room c.unfilled.result c.unfilled.ensures (omega arith)
 
 pub returns-then-read-ne0 : goal.returns-then-read-ne0
 returns-then-read-ne0 c =
