@@ -1,4 +1,4 @@
-/* The calls of Ribalonga for C and C++, as crates/ribalonga exports them. docs/CALLS.md says what each refuses and what it changes.
+/* The calls of Ribalonga for C and C++, as crates/ribalonga_c exports them. docs/CALLS.md says what each refuses and what it changes.
  *
  * A lent buffer is a pointer and its length in elements. It is not NULL, also where the length is 0, and a buffer that a call may change
  * overlaps no other buffer of that call. Beyond this every call takes every input: bad input is refused by its number. */

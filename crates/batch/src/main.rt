@@ -12,7 +12,8 @@ use std::io::Read;
 // The most bytes of three cards.
 const MOST_STREAM: usize = 196608;
 
-// Reads the cards, and no byte more; how many bytes they have. They are those that the input had first, and it has lost no others.
+// Reads the cards, and no byte more; how many bytes they have. Of an input whose bytes are known, they are those that it had first, and it has lost
+// no others.
 fn read_cards<R: Read>(input: &mut R, stream: &mut [u8]) -> usize
     requires { 196608 ≡ length stream.old }
     ensures count { result ≤ 196608 }

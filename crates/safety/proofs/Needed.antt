@@ -78,14 +78,14 @@ moment {s} {people₀} {people} {designs₀} {designs} {code} {start} begins lat
 breaks : {n a f u : Bool} (m : Moment n a f u) (type right person : ℕ)
     → any (holds (record { type = type; right = right; budget = m.budget })) (rows_from m.scheme.commands m.start m.budget) ≡ false
     → person < length m.people → type_at m.people person ≡ type → has (cell_at (cells_of m.code m.designs) person) right ≡ true → Breaks n a f u
-breaks m type right person not_listed present of_type_lem holds_it = record {
+breaks m type right person not_listed present of_type holds_it = record {
   moment = m;
   type = type;
   right = right;
   not_listed = not_listed;
   person = person;
   present = present;
-  of_type_lem = of_type_lem;
+  of_type = of_type;
   holds_it = holds_it;
 }
 

@@ -151,11 +151,11 @@ held_row commands start q h =
     (get_or rows i [], listed_reached commands start.kind start.row q.budget i l, right)
 
 module _ (s : Scheme) (valid : ValidScheme s) (people : List Person) (each : OneOfEach s.types people) (code : List ℕ) (start : Start) (q : Question)
-    (is_held_lem : (verdict_from s.commands start q).held ≡ 1) (wide : length start.row ≡ 8) where
+    (is_held : (verdict_from s.commands start q).held ≡ 1) (wide : length start.row ≡ 8) where
   reached : (designs : List Design) → Good s people designs → place_of code designs < length designs → (design_at code designs).kind ≡ start.kind
       → Agree (cells_of code designs) start.row → (requests : List Request) × Reached s people designs code q requests
   reached designs good present kind agree =
-      let (row, r, right) = held_row s.commands start q is_held_lem in
+      let (row, r, right) = held_row s.commands start q is_held in
       let st : Stands s valid people each code start.kind designs start.row =
       record { good = good; present = present; kind_is = kind; agree = agree; wide = wide } in
       let ran = run s valid people each code start.kind designs start.row row st r in
@@ -166,9 +166,9 @@ good_admitted s people designs a = record { check = checked s.kinds s.rights (le
 
 pub reached_of_design : ReachedOfDesign
 unfolding design_call_number row_of_design
-reached_of_design h code q table asked is_held_lem people each designs admits there kind agree =
+reached_of_design h code q table asked is_held people each designs admits there kind agree =
     let facts = simp accepted at asked in
-    reached h.scheme (handed_scheme h facts.1.0) people each code (start_in h code) q is_held_lem refl designs (good_admitted h.scheme people designs admits)
+    reached h.scheme (handed_scheme h facts.1.0) people each code (start_in h code) q is_held refl designs (good_admitted h.scheme people designs admits)
     (ltb-true (place_of code designs) (length designs) there) kind agree
 
 -- ---- a create by the person of its type
@@ -205,7 +205,7 @@ module _ (s : Scheme) (valid : ValidScheme s) (people : List Person) (each : One
 
 pub reached_of_create : ReachedOfCreate
 unfolding create_call_number create_asked_number row_of_create batch_numbers batched
-reached_of_create s k q table asked is_held_lem people each designs admits code spelt absent room =
+reached_of_create s k q table asked is_held people each designs admits code spelt absent room =
     let facts = simp accepted at asked in
     let valid = valid_scheme s facts.0 in
     let types = valid.types_are.1 in
@@ -221,7 +221,7 @@ reached_of_create s k q table asked is_held_lem people each designs admits code 
     let good = good_requested s people valid designs (good_admitted s people designs admits) first in
     let small : c.source < 8 = omega (arith, (valid.commands_valid k l).source_below) in
     let (requests, done) =
-    reached s valid people each code (start_of_create c) q is_held_lem (created_length c c.source 8) after good
+    reached s valid people each code (start_of_create c) q is_held (created_length c c.source 8) after good
     (omega (arith, place, created_count s people designs first made)) (ap (λ (d : Design). d.kind) there)
     (λ p. ap (λ (d : Design). cell_at d.cells p) there ∙ created_agree c c.source 32 8 (omega arith) small p) in
     (requests, record { answered = rw (zero_number) done.answered; held = done.held })

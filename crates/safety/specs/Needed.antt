@@ -39,7 +39,7 @@ pub record Breaks (normal apart fits single : Bool) : Type 0 where
   pub not_listed : any (holds (record { type = type; right = right; budget = moment.budget })) (rows_from moment.scheme.commands moment.start moment.budget) ≡ false
   pub person : ℕ
   pub present : person < length moment.people
-  pub of_type_lem : type_at moment.people person ≡ type
+  pub of_type : type_at moment.people person ≡ type
   pub holds_it : has (cell_at (cells_of moment.code moment.designs) person) right ≡ true
 
 -- *apart* breaks, where *never* need not

@@ -12,7 +12,8 @@ use std::io::Read;
 // The most bytes of a card.
 const MOST_STREAM: usize = 65536;
 
-// Reads the card, and no byte more; how many bytes it has. They are those that the input had first, and it has lost no others.
+// Reads the card, and no byte more; how many bytes it has. Of an input whose bytes are known, they are those that it had first, and it has lost
+// no others.
 fn read_card<R: Read>(input: &mut R, stream: &mut [u8]) -> usize
     requires { 65536 ≡ length stream.old }
     ensures count { result ≤ 65536 }
