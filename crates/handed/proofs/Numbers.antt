@@ -12,13 +12,14 @@ use lib.ListN.{length}
 use Rattle.model.specs.Sizes.{roster_room, store_room}
 use Rattle.model.specs.Codes.{spelled, packed, unpacked}
 use Rattle.model.specs.Schemes.{scheme_is_valid, scheme_number}
-use Rattle.model.specs.Rosters.{roster_number}
+use Rattle.model.specs.Rosters.{out_of_range, roster_number}
 use Rattle.model.specs.Stores.{Design, place_of, named_number, store_number}
 use Rattle.model.specs.Outcomes.{Handed, people_in, designs_in, has_rooms, handed_number}
-use Rattle.laws.proofs.Tests.{passed}
+use Rattle.laws.proofs.Tests.{by_test, passed}
 use Rattle.laws.proofs.Codes.{unpacked-packed}
-use Rattle.laws.proofs.Checks.{valid_scheme, valid_roster}
+use Rattle.laws.proofs.Checks.{valid_scheme}
 use Rattle.laws.proofs.Kept.{roster_length, handed_scheme, handed_people, handed_store}
+use Rattle.rosters.proofs.Numbers.{few, range_refused}
 use Rattle.handed.specs.Handing.{Accepted}
 
 module _ (h : Handed) where
@@ -56,10 +57,11 @@ module _ (h : Handed) where
         unfolding handed_number
         roster_refused some = rw (zero_scheme, ← en, ne_eqb n 0 some)
 
-        pub people_few : n ≡ 0 → h.count ≤ 32
-        people_few z =
-            let valid = valid_roster h.scheme.types (people_in h) (cc) in
-            omega (arith, valid.few, roster_length h.count h.roster)
+        pub people_few : (n ≡ 3 → ⊥) → h.count ≤ 32
+        people_few other =
+            by_test (out_of_range h.scheme.types (people_in h))
+            (λ out. absurd (other (en ∙ range_refused h.scheme.types h.count h.roster out)))
+            (λ inside. few h.scheme.types h.count h.roster inside)
 
         pub store_decides : n ≡ 0 → store_number h.scheme.kinds h.scheme.rights h.count (designs_in h) ≡ handed_number h
         unfolding handed_number

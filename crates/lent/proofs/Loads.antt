@@ -1,6 +1,6 @@
 -- What a loaded list of commands is, field by field, and what it stands for; and one command more that is written from a list's beginning.
 -- Assumes nothing.
-use Prim.Native.Nat.{ℕ, ◌+◌, ◌≤◌, ◌<◌, min}
+use Prim.Native.Nat.{ℕ, ◌+◌, ◌<◌, min}
 use mathlib.Core.List.{List}
 use mathlib.Core.Path.{◌≡◌, refl, sym, ap, ◌∙◌}
 use native.Mathlib.Numerals.{add-one}
@@ -10,7 +10,7 @@ use lib.Seq.{take-suc, length-take-le, take-take, take_all}
 use Rattle.model.specs.declared.Command.{Command}
 use Rattle.model.specs.Words.{written_over}
 use Rattle.model.specs.Schemes.{no_command, command_in}
-use Rattle.laws.proofs.Lists.{length-written, written_snoc}
+use Rattle.laws.proofs.Lists.{written_snoc}
 use Rattle.schemes.specs.declared.Loaded.{Loaded}
 use Rattle.schemes.specs.Loads.{loaded_from}
 use Rattle.lent.specs.Loads.{loaded_of}
@@ -43,9 +43,6 @@ loaded_by l cs i e types kinds rights count commands = rw (types, kinds, rights,
 -- ---- commands that are written from a list's beginning
 
 module _ (cs ys : List Command) (i : ℕ) where
-  pub length-stored : i ≤ length cs → i ≤ length ys → length (written_over (take i cs) ys) ≡ length ys
-  length-stored k l = length-written (take i cs) ys (omega (arith, length-take-le i cs k))
-
   pub stored_more : i < length cs → i < length ys → set (written_over (take i cs) ys) i (command_in cs i) ≡ written_over (take (i + 1) cs) ys
   stored_more k l =
       let e : length (take i cs) ≡ i = length-take-le i cs (omega arith) in

@@ -158,11 +158,6 @@ module _ (h : Handed) (a : Accepted h) (fit : Words h.store) (rest : List ℕ) (
         numbers_length h.scheme (people_in h) (designs_in h) (take i qs)
         ∙ length-take-le i qs (omega (arith, ran.count, length-requests n rest))
 
-    pub store_kept : length store ≡ length h.store
-    store_kept =
-        let g = good_after h a fit (take i qs) in
-        ap length ran.so_far.store_is ∙ store_words_length (after h a fit (take i qs)) h.store g.celled g.check.few (sized h a).store_wide
-
     pub answers_kept : n ≤ length answers → length now ≡ length answers
     answers_kept room = ap length ran.so_far.answers_are ∙ length-written (numbers_to i) answers (omega (arith, numbered, ran.count))
 

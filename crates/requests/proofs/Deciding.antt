@@ -4,7 +4,7 @@ use Prim.Native.Nat.{ℕ, ◌≤◌, ◌<◌}
 use mathlib.Core.Path.{◌≡◌, refl}
 use mathlib.Core.Bool.{Bool, true, false, not, ◌&&◌}
 use mathlib.Core.List.{List}
-use borrow.Author.Tests.{lt-ltb, le-ltb, le-leb, lt-leb, eq-eqb, ne_eqb, not-true, not-false}
+use borrow.Author.Tests.{lt-ltb, le-ltb, eq-eqb, ne_eqb, not-true, not-false}
 use lib.Dec.{ltb, eqb}
 use lib.ListN.{length, get_or}
 use Rattle.model.specs.declared.Command.{Command}
@@ -70,21 +70,9 @@ module _ (c : Command) (count : ℕ) (words : List ℕ) (a d : ℕ) where
   unfolding who_number
   who_are h = (simp accepted at (rw (roster_length count words) at h)).0
 
--- ---- a create, and another
+-- ---- a request that is no create
 
 module _ (designs : List Design) (code : List ℕ) (n : ℕ) (en : n ≡ length designs) (place : ℕ) (ep : place ≡ place_of code designs) where
-  pub code_exists : place < n → 10 ≡ create_number designs code
-  unfolding create_number
-  code_exists l = rw (← ep, ← en, lt-ltb place n l)
-
-  pub store_full : n ≤ place → 64 ≤ n → 11 ≡ create_number designs code
-  unfolding create_number
-  store_full l full = rw (← ep, ← en, le-ltb place n l, le-leb 64 n full)
-
-  pub create_passes : n ≤ place → n < 64 → 0 ≡ create_number designs code
-  unfolding create_number
-  create_passes l room = rw (← ep, ← en, le-ltb place n l, lt-leb 64 n room)
-
   module _ (c : Command) (source : ℕ) where
     pub no_design_lem : n ≤ place → 12 ≡ other_number c designs source code
     unfolding other_number

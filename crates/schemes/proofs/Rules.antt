@@ -1,29 +1,16 @@
--- The rules of a command in four groups, as the code tests them; what is left of a scheme's rules once its sizes are seen; and a test of every element,
--- seen one after the other.
+-- What is left of a scheme's rules once its sizes are seen; and a test of every element, seen one after the other.
 -- Assumes nothing.
 use Prim.Native.Nat.{ℕ, ◌+◌, ◌≤◌, ◌<◌}
 use mathlib.Core.Path.{◌≡◌, ◌∙◌}
-use mathlib.Core.Bool.{Bool, true, false, not, ◌&&◌, ◌||◌, and_assoc, and-false}
+use mathlib.Core.Bool.{Bool, true, false, ◌&&◌, and-false}
 use mathlib.Core.List.{List}
 use native.Mathlib.Numerals.{add-one}
 use borrow.Author.Tests.{le-leb, lt-leb}
-use lib.Dec.{ltb, eqb}
 use lib.ListN.{length, get_or, drop, drop_of_length-le}
-use Rattle.model.specs.declared.Command.{Command}
 use Rattle.model.specs.Words.{between, all}
 use Rattle.model.specs.Sizes.{most_types, most_kinds, most_rights, most_commands}
-use Rattle.model.specs.Rights.{fits_rights}
-use Rattle.model.specs.Schemes.{Scheme, is_create, is_grant, command_is_valid, scheme_is_valid}
+use Rattle.model.specs.Schemes.{Scheme, command_is_valid, scheme_is_valid}
 use Rattle.laws.proofs.Lists.{all_drop}
-
-pub grouped : (types kinds rights : ℕ) (c : Command)
-    → command_is_valid types kinds rights c
-    ≡ (between 1 3 c.form && ltb c.source types && ltb c.destination types && ltb c.kind kinds)
-    && (fits_rights rights c.x && fits_rights rights c.y && fits_rights rights c.z)
-    && (is_grant c || eqb c.destination c.source)
-    && (not (is_create c) || eqb c.x 0 && eqb c.y 0)
-unfolding command_is_valid
-grouped types kinds rights c = simp and_assoc
 
 module _ (s : Scheme) where
   pub long : most_commands < length s.commands → scheme_is_valid s ≡ false

@@ -17,7 +17,7 @@ pub store_number-requires : goal.store_number-requires
 store_number-requires c =
     let h = handed (goal.at.store_number-requires c).Start in (
       rights_few h _ c.is_valid.ensures c.if-not-is_valid.false-raw,
-      people_few h _ c.is_valid.ensures c.if-not-is_valid.false-raw _ c.roster_number-number.ensures (omega arith),
+      people_few h _ c.is_valid.ensures c.if-not-is_valid.false-raw _ c.roster_number-number.ensures (λ out. omega (arith, out)),
       search rules,
     )
 
