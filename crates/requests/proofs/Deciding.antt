@@ -1,4 +1,5 @@
--- The number of a request at each exit of the functions that decide it, whose tests are the definition's, in its order.
+-- The number of a request at each exit of the functions that decide it, whose tests are the definition's, in its order; but for a create's own
+-- number, whose exits are found without a law.
 -- Assumes nothing.
 use Prim.Native.Nat.{ℕ, ◌≤◌, ◌<◌}
 use mathlib.Core.Path.{◌≡◌, refl}
