@@ -3,20 +3,19 @@
 use Prim.Native.Nat.{ℕ, suc, ◌+◌, ◌-◌, ◌*◌, ◌≤◌, ◌<◌}
 use mathlib.Core.Path.{◌≡◌, refl, sym, ap, ◌∙◌}
 use mathlib.Core.Bool.{true}
-use mathlib.Core.List.{List, [], ◌∷◌, ◌++◌, map, append_assoc, append-nil}
+use mathlib.Core.List.{List, [], ◌++◌, map, append_assoc, append-nil}
 use native.Mathlib.Nat.{sub-zero}
 use native.Mathlib.Omega.{arith}
-use lib.ListN.{length, get_or, take, drop, set, length-append, length-drop, take-append-drop}
-use lib.Seq.{length-take-le, drop-drop, drop-append-add, get_or-take}
-use Rattle.model.specs.declared.Code.{Code}
+use lib.ListN.{length, take, drop, length-append, take-append-drop}
+use lib.Seq.{length-take-le, drop-drop, drop-append-add}
 use Rattle.model.specs.Words.{written_over}
-use Rattle.model.specs.Codes.{packed}
-use Rattle.model.specs.Rosters.{words_of_person, roster_words}
+use Rattle.model.specs.Rosters.{Person, words_of_person, roster_words}
 use Rattle.model.specs.Cards.{entry_size, entries_fill, entries, person_of_entry}
 use Rattle.laws.proofs.Tests.{passed}
 use Rattle.laws.proofs.Lists.{length-written, take-written, rest_written}
-use Rattle.cards.specs.People.{person_in, spelled_only, readable}
-use Rattle.cards.proofs.Places.{cut_part}
+use Rattle.cards.specs.Entries.{is_whole}
+use Rattle.cards.specs.People.{readable}
+use Rattle.cards.proofs.Filling.{fill_next}
 
 -- ---- lent memory that is written in parts
 
@@ -40,100 +39,71 @@ pub written_all : (at : ℕ) (words : List ℕ) → at ≤ length words → writ
 unfolding written_over
 written_all at words h = rw (append-nil (take at words), length-take-le at words h) (take-append-drop at words)
 
-pub four_set : (words : List ℕ) (a b c d : ℕ) → 4 ≤ length words
-    → set (set (set (set words 0 a) 1 b) 2 c) 3 d ≡ written_over (a ∷ b ∷ c ∷ d ∷ []) words
-unfolding written_over
-four_set [] a b c d h = absurd (omega arith)
-four_set (w ∷ []) a b c d h = absurd (omega arith)
-four_set (w ∷ x ∷ []) a b c d h = absurd (omega arith)
-four_set (w ∷ x ∷ y ∷ []) a b c d h = absurd (omega arith)
-four_set (w ∷ x ∷ y ∷ z ∷ words) a b c d h = refl
-
 -- ---- the people of entries, written one after the other
 
 abbrev pub words_of : List (List ℕ) → List ℕ
 words_of es = roster_words (map readable (map person_of_entry es))
 
--- the entry at hand: it stands whole, where the next one begins, and its person's words
-module _ (rest : List ℕ) (n i at : ℕ) (fill : entries_fill 2 (n - i) (drop at rest) ≡ true) where
-  pub record AtHand : Type 0 where
-    pub fixed : 2 ≤ length (drop at rest)
-    pub whole : entry_size 2 (drop at rest) ≤ length (drop at rest)
-    pub inside : at + entry_size 2 (drop at rest) ≤ length rest
-    pub filled : entries_fill 2 (n - (i + 1)) (drop (at + entry_size 2 (drop at rest)) rest) ≡ true
-    pub words : words_of (entries 2 (n - i) (drop at rest))
-        ≡ words_of_person (readable (person_in (drop at rest))) ++ words_of (entries 2 (n - (i + 1)) (drop (at + entry_size 2 (drop at rest)) rest))
+-- the entry at hand: it stands whole, those behind it fill what follows it, and its person's words come first
+module _ (left : List ℕ) (n i : ℕ) (fill : entries_fill 2 (n - i) left ≡ true) (l : i < n) where
+  abbrev after : List ℕ
+  after = drop (entry_size 2 left) left
 
-  pub at_hand : i < n → AtHand
+  both : (is_whole 2 left ≡ true) × (entries_fill 2 (n - (i + 1)) after ≡ true)
+  both = simp passed at (sym (fill_next 2 left n i l) ∙ fill)
+
+  pub whole_at_hand : is_whole 2 left ≡ true
+  whole_at_hand = both.0
+
+  pub filled_behind : entries_fill 2 (n - (i + 1)) after ≡ true
+  filled_behind = both.1
+
+  pub words_at_hand : (person : Person) → person_of_entry (take (entry_size 2 left) left) ≡ person
+      → words_of (entries 2 (n - i) left) ≡ words_of_person (readable person) ++ words_of (entries 2 (n - (i + 1)) after)
   unfolding roster_words
-  at_hand l =
+  words_at_hand person is =
       let more : n - i ≡ suc (n - (i + 1)) = omega arith in
-      let facts = simp passed at (rw more at fill) in
-      let later : drop (entry_size 2 (drop at rest)) (drop at rest) ≡ drop (at + entry_size 2 (drop at rest)) rest =
-      drop-drop (entry_size 2 (drop at rest)) at rest in
-      record {
-        fixed = facts.0.0;
-        whole = facts.0.1;
-        inside = omega (arith, length-drop at rest);
-        filled = rw later at facts.1;
-        words = rw (more, later) refl;
-      }
+      let later = words_of (entries 2 (n - (i + 1)) after) in
+      let first : words_of (entries 2 (n - i) left) ≡ words_of_person (readable (person_of_entry (take (entry_size 2 left) left))) ++ later = rw more refl in
+      first ∙ ap (λ (p : Person). words_of_person (readable p) ++ later) is
 
--- i people are written, the next entry begins at a place, and what is left completes the words
-pub record Written (rest first : List ℕ) (n : ℕ) (words : List ℕ) (at i : ℕ) : Type 0 where
-  pub count : i ≤ n
-  pub inside : at ≤ length rest
+-- i people are written, and what is left of the entries completes the words
+pub record Written (rest first : List ℕ) (n : ℕ) (left words : List ℕ) (i : ℕ) : Type 0 where
+  pub filled : entries_fill 2 (n - i) left ≡ true
   pub room : length words ≡ length first
-  pub filled : entries_fill 2 (n - i) (drop at rest) ≡ true
-  pub completed : written_over (take (4 * i) words ++ words_of (entries 2 (n - i) (drop at rest))) words ≡ written_over (words_of (entries 2 n rest)) first
+  pub completed : written_over (take (4 * i) words ++ words_of (entries 2 (n - i) left)) words ≡ written_over (words_of (entries 2 n rest)) first
 
-module _ (rest first : List ℕ) (n : ℕ) (room : 4 * n ≤ length first) where
-  pub written_none : entries_fill 2 n rest ≡ true → Written rest first n first 0 0
+module _ (rest first : List ℕ) (n : ℕ) where
+  pub written_none : entries_fill 2 n rest ≡ true → Written rest first n rest first 0
   written_none fill = record {
-    count = omega arith;
-    inside = omega arith;
-    room = refl;
     filled = rw (sub-zero n) fill;
+    room = refl;
     completed = rw (sub-zero n) refl;
   }
 
-  module _ (words : List ℕ) (at i : ℕ) (here : Written rest first n words at i) where
-    pub written_next : i < n → (size : ℕ) (part : List ℕ) → size ≡ entry_size 2 (drop at rest)
-        → part ≡ written_over (words_of_person (readable (person_in (drop at rest)))) (take (length words - 4 * i) (drop (4 * i) words))
-        → Written rest first n (take (4 * i) words ++ (part ++ drop (length words - 4 * i) (drop (4 * i) words))) (at + size) (i + 1)
-    written_next l size part s p =
-        let new = words_of_person (readable (person_in (drop at rest))) in
-        let after = at_hand rest n i at here.filled l in
+  module _ (left words : List ℕ) (i : ℕ) (here : Written rest first n left words i) (room : 4 * n ≤ length first) where
+    pub written_next : i < n → (person : Person) (part : List ℕ) → person_of_entry (take (entry_size 2 left) left) ≡ person
+        → part ≡ written_over (words_of_person (readable person)) (take (length words - 4 * i) (drop (4 * i) words))
+        → Written rest first n (drop (entry_size 2 left) left) (take (4 * i) words ++ (part ++ drop (length words - 4 * i) (drop (4 * i) words))) (i + 1)
+    written_next l person part is p =
+        let new = words_of_person (readable person) in
         let k = length words - 4 * i in
         let e : take (4 * i) words ++ (part ++ drop k (drop (4 * i) words)) ≡ written_over (take (4 * i) words ++ new) words =
-        rw p (rest_written (4 * i) words new (omega arith)) in
+        rw p (rest_written (4 * i) words new (omega (arith, here.room))) in
         let four : 4 * (i + 1) ≡ 4 * i + 4 = omega arith in
-        rw (e, s)
+        rw e
         (record {
-          count = omega arith;
-          inside = after.inside;
+          filled = filled_behind left n i here.filled l;
           room = length-written (take (4 * i) words ++ new) words
-              (omega (arith, length-append (take (4 * i) words) new, length-take-le (4 * i) words (omega arith)))
+              (omega (arith, here.room, length-append (take (4 * i) words) new, length-take-le (4 * i) words (omega (arith, here.room))))
               ∙ here.room;
-          filled = after.filled;
           completed = rw four
-              (written_part (4 * i) 4 new (words_of (entries 2 (n - (i + 1)) (drop (at + entry_size 2 (drop at rest)) rest))) words (omega arith) refl
-              ∙ rw (sym after.words) here.completed);
+              (written_part (4 * i) 4 new (words_of (entries 2 (n - (i + 1)) (drop (entry_size 2 left) left))) words (omega (arith, here.room)) refl
+              ∙ rw (sym (words_at_hand left n i here.filled l person is)) here.completed);
         })
 
-    pub written_last : n ≤ i → words ≡ written_over (words_of (entries 2 n rest)) first
+    pub written_last : n ≤ i → i ≤ n → words ≡ written_over (words_of (entries 2 n rest)) first
     unfolding roster_words
-    written_last l =
+    written_last h l =
         let none : n - i ≡ 0 = omega arith in
-        sym (written_all (4 * i) words (omega arith)) ∙ rw none at here.completed
-
--- ---- the entry that begins a rest, as its person's words
-
-pub person_words_lem : (rest words : List ℕ) (code : Code) → 4 ≤ length words
-    → code ≡ packed (spelled_only (take (2 + get_or rest 1 0 - 2) (drop 2 rest)))
-    → set (set (set (set words 0 (get_or rest 0 0)) 1 code.a) 2 code.b) 3 code.c
-    ≡ written_over (words_of_person (readable (person_in rest))) words
-person_words_lem rest words code h e =
-    let size = entry_size 2 rest in
-    let type : get_or (take size rest) 0 0 ≡ get_or rest 0 0 = get_or-take size rest 0 0 (omega arith) in
-    rw (four_set words (get_or rest 0 0) code.a code.b code.c h, e, type, cut_part 2 size rest)
+        sym (written_all (4 * i) words (omega (arith, here.room))) ∙ rw none at here.completed

@@ -1,61 +1,59 @@
 // The batch card: count of requests (two bytes), then for each a command, a source person, a destination person, a code length (any byte), the code.
-ghost use Rattle.std.specs.Prelude.{◌≡◌};
-ghost use Rattle.model.specs.Cards.{is_batch_card};
+ghost use Rattle.std.specs.Prelude.{◌≡◌, true, false, drop, option_map};
+ghost use Rattle.model.specs.Cards.{body, request_count, is_batch_card};
 ghost use Rattle.cards.specs.Entries.{next_of};
+ghost use Rattle.cards.specs.Requests.{request_in};
+ghost use Rattle.cards.specs.Given.{GivenIf};
 
-use crate::entries::{Entry, entries_fill, next_entry};
-use crate::{HEADER, is_card, number_at};
+use crate::entries::{entries_fill, split_entry};
+use crate::{body_of, number};
 
 // The most requests of a batch.
 pub const MOST_REQUESTS: usize = 256;
 
-// The bytes of their count.
-pub const COUNT_BYTES: usize = 2;
-
 // The bytes of a request before its code.
-pub const REQUEST_FIXED: usize = 4;
+const REQUEST_FIXED: usize = 4;
 
-// The card is a batch's: it counts at most 256 requests, and they fill it.
+// The count of requests and the bytes of their entries, if the card is a batch's: it counts at most 256 requests, and they fill it.
+#[tactic(auto, unfolding(model::specs::Cards::is_batch_card))]
+pub fn batch_body(card: &[u8]) -> Option<(usize, &[u8])>
+    ensures { GivenIf (is_batch_card card.now) result (λ p. (p.0 ≡ request_count card.now) × (p.1.now ≡ drop 2 (body card.now))) }
+{
+    let (count, requests) = body_of(card)?.split_first_chunk()?;
+    let n = number(*count);
+    if n > MOST_REQUESTS || !entries_fill::<REQUEST_FIXED>(requests, n) {
+        return None;
+    }
+    Some((n, requests))
+}
+
+// The card is a batch's.
 pub fn is_batch_card(card: &[u8]) -> bool
     ensures { result ≡ is_batch_card card.now }
 {
-    if !is_card(card) {
-        return false;
-    }
-    let body = &card[HEADER..];
-    if body.len() < COUNT_BYTES {
-        return false;
-    }
-    let n = number_at(body, 0);
-    if MOST_REQUESTS < n {
-        return false;
-    }
-    entries_fill(&body[COUNT_BYTES..], REQUEST_FIXED, n)
+    batch_body(card).is_some()
 }
 
-// What stands at the beginning of the rest: a request, whose code ends with its last byte, or one that runs past the end.
+// A request, as the card or the caller's own hands it over.
 #[derive(Clone, Copy)]
-pub enum Next {
-    Request {
-        command: usize,
-        source: usize,
-        destination: usize,
-        size: usize,
-    },
-    PastEnd,
+pub struct Request<'a> {
+    pub command: usize,
+    pub source: usize,
+    pub destination: usize,
+    pub code: &'a [u8],
 }
 
-// The request that begins the rest.
-pub fn next_request(rest: &[u8]) -> Next
-    ensures { result ≡ next_of rest.now }
+// The request that begins the rest, and what follows it, if the request does not run past the end.
+#[tactic(auto, using(crate::proofs::Places::next_past, crate::proofs::Places::next_whole, crate::proofs::Places::request_parts))]
+pub fn next_request(rest: &[u8]) -> Option<(Request<'_>, &[u8])>
+    ensures { option_map (λ p. (request_in p.0, p.1.now)) result ≡ next_of rest.now }
 {
-    let Entry::Whole(size) = next_entry(rest, REQUEST_FIXED) else {
-        return Next::PastEnd;
+    let ([command, source, destination, _], code, after) = split_entry::<REQUEST_FIXED>(rest)?;
+    let request = Request {
+        command: usize::from(*command),
+        source: usize::from(*source),
+        destination: usize::from(*destination),
+        code,
     };
-    Next::Request {
-        command: rest[0] as usize,
-        source: rest[1] as usize,
-        destination: rest[2] as usize,
-        size,
-    }
+    Some((request, after))
 }

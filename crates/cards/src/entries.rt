@@ -1,45 +1,32 @@
 // The entries of a roster or a batch: some fixed bytes, of which the last is the code length, then the code.
-ghost use Rattle.std.specs.Prelude.{◌≡◌, ◌≤◌};
-ghost use Rattle.model.specs.Cards.{entries_fill};
-ghost use Rattle.cards.specs.Entries.{entry_of};
+ghost use Rattle.std.specs.Prelude.{◌≡◌, ◌≤◌, ◌++◌, take, drop};
+ghost use Rattle.model.specs.Cards.{entry_size, entries_fill};
+ghost use Rattle.cards.specs.Entries.{is_whole};
+ghost use Rattle.cards.specs.Given.{GivenIf};
 
-// What stands at the beginning of the rest: an entry of this size, or one that runs past the end.
-#[derive(Clone, Copy)]
-pub enum Entry {
-    Whole(usize),
-    PastEnd,
-}
-
-// The entry that begins the rest.
-pub fn next_entry(rest: &[u8], fixed: usize) -> Entry
-    requires { (1 ≤ fixed) × (fixed ≤ 4) }
-    ensures { result ≡ entry_of fixed rest.now }
+// The fixed bytes and the code of the entry that begins the rest, and what follows it, if the entry does not run past the end.
+#[tactic(auto, using(crate::proofs::Filling::short_entry, crate::proofs::Filling::past_entry))]
+pub fn split_entry<const FIXED: usize>(rest: &[u8]) -> Option<(&[u8; FIXED], &[u8], &[u8])>
+    requires { 1 ≤ FIXED }
+    ensures { GivenIf (is_whole FIXED rest.now) result (λ p. (p.0.now ++ p.1.now ≡ take (entry_size FIXED rest.now) rest.now) × (p.2.now ≡ drop (entry_size FIXED rest.now) rest.now)) }
 {
-    let n = rest.len();
-    if n < fixed {
-        return Entry::PastEnd;
-    }
-    let last = fixed - 1;
-    let size = fixed + (rest[last] as usize);
-    if n < size {
-        return Entry::PastEnd;
-    }
-    Entry::Whole(size)
+    let (fixed, rest) = rest.split_first_chunk::<FIXED>()?;
+    let (code, after) = rest.split_at_checked(usize::from(fixed[FIXED - 1]))?;
+    Some((fixed, code, after))
 }
 
 // So many entries fill the rest exactly.
-pub fn entries_fill(rest: &[u8], fixed: usize, n: usize) -> bool
-    requires { (1 ≤ fixed) × (fixed ≤ 4) }
-    ensures { result ≡ entries_fill fixed n rest.now }
+#[tactic(auto, using(crate::proofs::Filling::fill_next))]
+pub fn entries_fill<const FIXED: usize>(rest: &[u8], n: usize) -> bool
+    requires { (1 ≤ FIXED) × (FIXED ≤ 4) }
+    ensures { result ≡ entries_fill FIXED n rest.now }
 {
-    let mut at = 0;
-    let mut i = 0;
-    while i < n {
-        let Entry::Whole(size) = next_entry(&rest[at..], fixed) else {
+    let mut left = rest;
+    for _ in 0..n {
+        let Some((_, _, after)) = split_entry::<FIXED>(left) else {
             return false;
         };
-        at += size;
-        i += 1;
+        left = after;
     }
-    at == rest.len()
+    left.is_empty()
 }

@@ -8,9 +8,10 @@ pub mod entries;
 pub mod roster;
 pub mod scheme;
 
-ghost use Rattle.std.specs.Prelude.{◌≡◌, ◌+◌, ◌≤◌, length, take, drop};
+ghost use Rattle.std.specs.Prelude.{◌≡◌, true, false};
 ghost use Rattle.model.specs.Words.{big_endian};
-ghost use Rattle.model.specs.Cards.{is_card};
+ghost use Rattle.model.specs.Cards.{body, is_card};
+ghost use Rattle.cards.specs.Given.{GivenIf};
 
 // The version byte that a card begins with.
 pub const VERSION: u8 = 1;
@@ -21,28 +22,23 @@ pub const HEADER: usize = 3;
 // The most bytes of a card, its header included.
 pub const MOST_CARD: usize = 65536;
 
-// The number that two bytes of the slice write.
-pub fn number_at(bytes: &[u8], at: usize) -> usize
-    requires { at + 2 ≤ length bytes.now }
-    ensures { result ≡ big_endian (take 2 (drop at bytes.now)) }
+// The number that two bytes write.
+pub fn number(bytes: [u8; 2]) -> usize
+    ensures { result ≡ big_endian bytes }
 {
-    (bytes[at] as usize) * 256 + (bytes[at + 1] as usize)
+    usize::from(u16::from_be_bytes(bytes))
 }
 
-// The bytes are a card: its version, and its length as it is written.
-#[tactic(auto, using(crate::proofs::Filling::short_card, crate::proofs::Filling::long_card, crate::proofs::Filling::sized_card))]
-pub fn is_card(card: &[u8]) -> bool
-    ensures { result ≡ is_card card.now }
+// The body of the bytes, if they are a card: its version, and its length as it is written.
+#[tactic(auto, unfolding(model::specs::Cards::is_card))]
+pub fn body_of(card: &[u8]) -> Option<&[u8]>
+    ensures { GivenIf (is_card card.now) result (λ b. b.now ≡ body card.now) }
 {
-    let n = card.len();
-    if n < HEADER {
-        return false;
+    let [VERSION, high, low, body @ ..] = card else {
+        return None;
+    };
+    if card.len() > MOST_CARD || body.len() != number([*high, *low]) {
+        return None;
     }
-    if MOST_CARD < n {
-        return false;
-    }
-    if card[0] != VERSION {
-        return false;
-    }
-    n - HEADER == number_at(card, 1)
+    Some(body)
 }

@@ -1,14 +1,15 @@
 // The scheme card: count of types, of kinds, of rights, of commands, then 16 bytes a command.
-ghost use Rattle.std.specs.Prelude.{◌≡◌, true, ◌+◌, ◌≤◌, length, take, drop};
-ghost use Rattle.model.specs.Words.{big_endian};
-ghost use Rattle.model.specs.Cards.{command_of, scheme_of, is_scheme_card};
-ghost use Rattle.schemes.specs.Loads.{loaded_from};
-ghost use Rattle.cards.specs.Schemes.{ReadScheme};
+ghost use Rattle.std.specs.Prelude.{◌≡◌, true, ◌+◌, ◌≤◌, length, take, drop, map, ℕ, ◌*◌, false, IfOk};
+ghost use Rattle.model.specs.Words.{big_endian, groups, written_over};
+ghost use Rattle.model.specs.Cards.{body, command_of, scheme_of, is_scheme_card, scheme_card_number};
+ghost use Rattle.model.specs.Refusals.{number_given};
+ghost use Rattle.schemes.specs.Loads.{scheme_in, loaded_from};
+ghost use Rattle.cards.specs.Given.{GivenIf};
 
-use crate::{HEADER, is_card};
-use codes::word;
+use crate::body_of;
 use model::Command;
-use schemes::{Loaded, MOST_COMMANDS, empty, is_valid};
+use model::refusal::Refusal;
+use schemes::Loaded;
 
 // The bytes of the four counts, before the first command.
 const COUNTS: usize = 4;
@@ -16,18 +17,23 @@ const COUNTS: usize = 4;
 // The bytes of a command.
 const COMMAND_BYTES: usize = 16;
 
-// The card is a scheme's: its commands fill it.
+// The four counts and the bytes of the commands, if the card is a scheme's: its commands fill it.
+#[tactic(auto, unfolding(model::specs::Cards::is_scheme_card))]
+fn scheme_body(card: &[u8]) -> Option<(&[u8; COUNTS], &[u8])>
+    ensures { GivenIf (is_scheme_card card.now) result (λ p. (p.0.now ≡ take 4 (body card.now)) × (p.1.now ≡ drop 4 (body card.now))) }
+{
+    let (counts, commands) = body_of(card)?.split_first_chunk()?;
+    if commands.len() != COMMAND_BYTES * usize::from(counts[3]) {
+        return None;
+    }
+    Some((counts, commands))
+}
+
+// The card is a scheme's.
 pub fn is_scheme_card(card: &[u8]) -> bool
     ensures { result ≡ is_scheme_card card.now }
 {
-    if !is_card(card) {
-        return false;
-    }
-    let body = &card[HEADER..];
-    if body.len() < COUNTS {
-        return false;
-    }
-    body.len() == COUNTS + COMMAND_BYTES * (body[3] as usize)
+    scheme_body(card).is_some()
 }
 
 // The number that four bytes of the slice write.
@@ -35,64 +41,63 @@ fn word_on(bytes: &[u8], at: usize) -> u32
     requires { at + 4 ≤ length bytes.now }
     ensures { result ≡ big_endian (take 4 (drop at bytes.now)) }
 {
-    word(bytes[at], bytes[at + 1], bytes[at + 2], bytes[at + 3])
+    u32::from_be_bytes([bytes[at], bytes[at + 1], bytes[at + 2], bytes[at + 3]])
 }
 
-// The command that stands at a place of the slice.
-pub fn command_on(bytes: &[u8], at: usize) -> Command
-    requires { at + 16 ≤ length bytes.now }
-    ensures { result ≡ command_of (take 16 (drop at bytes.now)) }
+// The command that the bytes write.
+#[tactic(auto, unfolding(model::specs::Cards::command_of))]
+fn command_on(bytes: &[u8; COMMAND_BYTES]) -> Command
+    ensures { result ≡ command_of bytes.now }
 {
     Command {
-        form: bytes[at],
-        source: bytes[at + 1],
-        destination: bytes[at + 2],
-        kind: bytes[at + 3],
-        x: word_on(bytes, at + 4),
-        y: word_on(bytes, at + 8),
-        z: word_on(bytes, at + 12),
+        form: bytes[0],
+        source: bytes[1],
+        destination: bytes[2],
+        kind: bytes[3],
+        x: word_on(bytes, 4),
+        y: word_on(bytes, 8),
+        z: word_on(bytes, 12),
     }
 }
 
-// The scheme that the card holds, whatever its counts are. Commands past the 64th are counted and not kept. Each is written in its place, so that no
-// scheme is copied for it.
-pub fn scheme_on(card: &[u8]) -> Loaded
-    requires { is_scheme_card card.now ≡ true }
-    ensures { result ≡ loaded_from (scheme_of card.now) }
+// The commands that the bytes write, each in its place, as far as there are places.
+#[tactic(auto, using(crate::proofs::Commands::loading_none))]
+fn write_commands(bytes: &[u8], places: &mut [Command])
+    ensures { (n : ℕ) → length bytes.now ≡ 16 * n → places.new ≡ written_over (take (length places.old) (map command_of (groups 16 n bytes.now))) places.old }
 {
-    let body = &card[HEADER..];
-    let n = body[3] as usize;
-    let mut l = empty(body[0] as usize, body[1] as usize, body[2] as usize);
-    let mut i = 0;
-    while i < n {
-        let c = command_on(body, COUNTS + COMMAND_BYTES * i);
-        if i < MOST_COMMANDS {
-            l.commands[i] = c;
-        }
-        i += 1;
-        l.count = i;
+    let mut rest = bytes;
+    for place in places.iter_mut() {
+        let Some((first, after)) = rest.split_first_chunk() else {
+            return;
+        };
+        *place = command_on(first);
+        rest = after;
     }
-    l
 }
 
-// What reading a scheme card gives: the number, and with 0 the scheme.
-#[derive(Clone, Copy)]
-pub struct SchemeCard {
-    pub number: u8,
-    pub scheme: Loaded,
+// The scheme that the bytes hold, whatever its counts are, if they are a scheme's card. Commands past the 64th are counted and not kept.
+#[tactic(auto, unfolding(schemes::specs::Loads::unloaded), using(crate::proofs::Commands::commands_fill, crate::proofs::Commands::loaded_as))]
+pub fn scheme_on(card: &[u8]) -> Option<Loaded>
+    ensures { GivenIf (is_scheme_card card.now) result (λ l. l ≡ loaded_from (scheme_of card.now)) }
+{
+    let ([types, kinds, rights, count], commands) = scheme_body(card)?;
+    let mut l = Loaded::empty(
+        usize::from(*types),
+        usize::from(*kinds),
+        usize::from(*rights),
+    );
+    l.count = usize::from(*count);
+    write_commands(commands, &mut l.commands);
+    Some(l)
 }
 
 // The scheme of a card, checked.
-pub fn read_scheme(card: &[u8]) -> SchemeCard
-    ensures { ReadScheme card.now result }
+#[tactic(auto, using(crate::proofs::Commands::no_scheme, crate::proofs::Commands::loaded_number, crate::proofs::Commands::loaded_accepted))]
+pub fn read_scheme(card: &[u8]) -> Result<Loaded, Refusal>
+    ensures number { number_given result ≡ scheme_card_number card.now }
+    ensures scheme { IfOk result (λ l. (l ≡ loaded_from (scheme_of card.now)) × (scheme_in l ≡ scheme_of card.now)) }
 {
-    if !is_scheme_card(card) {
-        let scheme = empty(0, 0, 0);
-        return SchemeCard { number: 1, scheme };
-    }
-    let scheme = scheme_on(card);
-    if !is_valid(scheme) {
-        return SchemeCard { number: 2, scheme };
-    }
-    SchemeCard { number: 0, scheme }
+    let scheme = scheme_on(card).ok_or(Refusal::BadCard)?;
+    scheme.check()?;
+    Ok(scheme)
 }

@@ -1,143 +1,123 @@
 // P1 to P12 of document 01.
-use schemes::empty;
+use mill::{commands_a, commands_b};
+use model::Command;
 use std::io;
-use trials::asking::{asked, design_asked, scheme_a, scheme_b, scheme_c};
-use trials::printing::{say, text};
-use trials::writing::{alone, asks, batch, close, line, person, roster, scheme, with};
+use trials::asking::{CREATE, Scheme, asked, commands_c, line, roster_of, store_of};
+use trials::printing::{text, verdict};
+use trials::writing::Stream;
 
 // P1 to P6: start 0; type, right and budget as document 01 names them.
 fn create_verdicts(rt: &impl Print) -> io::Result<()> {
-    asked(rt, b"P1: ", scheme_a(), 0, 0, 7, 11)?;
-    asked(rt, b"P2: ", scheme_a(), 0, 0, 7, 10)?;
-    asked(rt, b"P3: ", scheme_a(), 0, 1, 7, 11)?;
-    asked(rt, b"P4: ", scheme_b(), 0, 0, 7, 21)?;
-    asked(rt, b"P5: ", scheme_b(), 0, 0, 7, 20)?;
-    asked(rt, b"P6: ", scheme_c(), 0, 0, 7, 11)
+    for (name, commands, question) in [
+        ("P1: ", commands_a(), [0, 0, 7, 11]),
+        ("P2: ", commands_a(), [0, 0, 7, 10]),
+        ("P3: ", commands_a(), [0, 1, 7, 11]),
+        ("P4: ", commands_b(), [0, 0, 7, 21]),
+        ("P5: ", commands_b(), [0, 0, 7, 20]),
+        ("P6: ", commands_c(), [0, 0, 7, 11]),
+    ] {
+        asked(rt, name, Scheme::of_mill(&commands), question)?;
+    }
+    Ok(())
+}
+
+// The verdict of a stored design, by a code of one byte, asked for the designer ANN: there is W, on which the lab's L1 holds right 4, and its L2 these rights.
+fn design_asked(
+    rt: &impl Print,
+    name: &str,
+    commands: &[Command],
+    second: u32,
+    code: u8,
+    right: usize,
+    budget: usize,
+) -> io::Result<()> {
+    let people = [
+        (0, *b"ANN\0"),
+        (1, *b"L1\0\0"),
+        (1, *b"L2\0\0"),
+        (2, *b"LIC\0"),
+    ];
+    let v = ribalonga::verdict_of_design(
+        commands,
+        3,
+        1,
+        8,
+        &roster_of(&people),
+        4,
+        &store_of([0, 0x10, second]),
+        &[code],
+        0,
+        right,
+        budget,
+        &mut [0; 168],
+    );
+    verdict(rt, name, v)
 }
 
 // P7, and trap 10: 15 comes before 4 and 12, these before 16, 16 before 17, and 17 before 18.
 fn design_verdicts(rt: &impl Print) -> io::Result<()> {
-    design_asked(rt, b"P7: ", scheme_b(), [0x10, 0x10], b'W', 7, 21)?;
-    design_asked(
-        rt,
-        b"T10 16 before 17: ",
-        scheme_c(),
-        [0x10, 0x10],
-        b'W',
-        7,
-        21,
-    )?;
-    design_asked(
-        rt,
-        b"T10 17 before 18: ",
-        scheme_b(),
-        [0x10, 0x10],
-        b'W',
-        7,
-        1,
-    )?;
-    design_asked(rt, b"T10 18: ", scheme_b(), [0x10, 0], b'W', 7, 1)?;
-    design_asked(rt, b"T10 0: ", scheme_b(), [0x10, 0], b'W', 5, 2)?;
-    design_asked(
-        rt,
-        b"T10 15 before 4: ",
-        scheme_c(),
-        [0x10, 0x10],
-        b'-',
-        8,
-        21,
-    )?;
-    design_asked(
-        rt,
-        b"T10 4 before 16: ",
-        scheme_c(),
-        [0x10, 0x10],
-        b'-',
-        7,
-        21,
-    )?;
-    design_asked(
-        rt,
-        b"T10 12 before 16: ",
-        scheme_c(),
-        [0x10, 0x10],
-        b'V',
-        7,
-        21,
-    )
-}
-
-// Scheme A and the roster of ANN alone; where the batch begins.
-fn ann(s: &mut [u8]) -> usize {
-    let from = scheme(s, scheme_a());
-    let at = roster(s, from, 1);
-    let next = person(s, at, 0, b"ANN");
-    close(s, from, next)
+    for (name, commands, second, code, right, budget) in [
+        ("P7: ", commands_b(), 0x10, b'W', 7, 21),
+        ("T10 16 before 17: ", commands_c(), 0x10, b'W', 7, 21),
+        ("T10 17 before 18: ", commands_b(), 0x10, b'W', 7, 1),
+        ("T10 18: ", commands_b(), 0, b'W', 7, 1),
+        ("T10 0: ", commands_b(), 0, b'W', 5, 2),
+        ("T10 15 before 4: ", commands_c(), 0x10, b'-', 8, 21),
+        ("T10 4 before 16: ", commands_c(), 0x10, b'-', 7, 21),
+        ("T10 12 before 16: ", commands_c(), 0x10, b'V', 7, 21),
+    ] {
+        design_asked(rt, name, &commands, second, code, right, budget)?;
+    }
+    Ok(())
 }
 
 // P8: cell 03 by command 1 of A.
 fn internal(rt: &impl Print) -> io::Result<()> {
-    let mut stream = [0u8; 256];
-    let s: &mut [u8] = &mut stream;
-    let from = ann(s);
-    let at = batch(s, from, 2);
-    let next = asks(s, at, [0, 0, 0], b"W-104");
-    let last = asks(s, next, [1, 0, 0], b"W-104");
-    let end = close(s, from, last);
-    text(rt, b"P8:\n", s, end)
+    let commands = commands_a();
+    let stream = Stream::by(b"ANN", Scheme::of_mill(&commands), 2, |card| {
+        card.asks([0, 0, 0], b"W-104");
+        card.asks([1, 0, 0], b"W-104");
+    });
+    text(rt, "P8:\n", &stream)
 }
 
-// A create by ANN on this code, which ends the case's name.
-fn coded(rt: &impl Print, code: &[u8]) -> io::Result<()> {
-    let mut stream = [0u8; 256];
-    let s: &mut [u8] = &mut stream;
-    let from = ann(s);
-    let at = batch(s, from, 1);
-    let next = asks(s, at, [0, 0, 0], code);
-    let end = close(s, from, next);
-    say(rt, b"code ")?;
-    say(rt, code)?;
-    text(rt, b":\n", s, end)
-}
-
-// P9 to P11, and what else the spelling says.
+// P9 to P11, and what else the spelling says: creates by ANN, each on a code that ends the case's name. In the second half is one hyphen or byte that no code has.
 fn spellings(rt: &impl Print) -> io::Result<()> {
-    say(rt, b"P9 ")?;
-    coded(rt, b"w-104")?;
-    say(rt, b"P10 ")?;
-    coded(rt, b"ABCDEFGHIJKL")?;
-    say(rt, b"P10 ")?;
-    coded(rt, b"ABCDEFGHIJKLM")?;
-    say(rt, b"P11 ")?;
-    coded(rt, b"-")?;
-    coded(rt, b"")?;
-    coded(rt, b"AZ-09")?;
-    coded(rt, b"A--Z")
-}
-
-// One hyphen or byte that no code has.
-fn misspellings(rt: &impl Print) -> io::Result<()> {
-    coded(rt, b"-A")?;
-    coded(rt, b"A-")?;
-    coded(rt, b"A B")?;
-    coded(rt, b"/")?;
-    coded(rt, b":")?;
-    coded(rt, b"@")?;
-    coded(rt, b"[")
+    let commands = commands_a();
+    let scheme = Scheme::of_mill(&commands);
+    for (name, code) in [
+        ("P9 ", "w-104"),
+        ("P10 ", "ABCDEFGHIJKL"),
+        ("P10 ", "ABCDEFGHIJKLM"),
+        ("P11 ", "-"),
+        ("", ""),
+        ("", "AZ-09"),
+        ("", "A--Z"),
+        ("", "-A"),
+        ("", "A-"),
+        ("", "A B"),
+        ("", "/"),
+        ("", ":"),
+        ("", "@"),
+        ("", "["),
+    ] {
+        let stream = Stream::by(b"ANN", scheme, 1, |card| {
+            card.asks([0, 0, 0], code.as_bytes());
+        });
+        print!(rt; "{name}code {code}")?;
+        text(rt, ":\n", &stream)?;
+    }
+    Ok(())
 }
 
 // P12: a grant from a person to itself, X = Y = Z = 01, cell 01.
 fn to_itself(rt: &impl Print) -> io::Result<()> {
-    let create = with(empty(1, 1, 1), line(1, 0, 0, 0, 0, 0, 1));
-    let mut stream = [0u8; 256];
-    let s: &mut [u8] = &mut stream;
-    let people = scheme(s, with(create, line(2, 0, 0, 0, 1, 1, 1)));
-    let from = alone(s, people);
-    let at = batch(s, from, 2);
-    let next = asks(s, at, [0, 0, 0], b"W");
-    let last = asks(s, next, [1, 0, 0], b"W");
-    let end = close(s, from, last);
-    text(rt, b"P12:\n", s, end)
+    let commands = [CREATE, line(2, 0, 0, 0, 1, 1, 1)];
+    let stream = Stream::by(b"A", Scheme::new(1, 1, 1, &commands), 2, |card| {
+        card.asks([0, 0, 0], b"W");
+        card.asks([1, 0, 0], b"W");
+    });
+    text(rt, "P12:\n", &stream)
 }
 
 // All of them.
@@ -146,6 +126,5 @@ pub fn proved(rt: &impl Print) -> io::Result<()> {
     design_verdicts(rt)?;
     internal(rt)?;
     spellings(rt)?;
-    misspellings(rt)?;
     to_itself(rt)
 }

@@ -1,5 +1,3 @@
 -- The laws behind the proofs of this crate.
-pub mod Lists
-pub mod Spelling
 pub mod Padding
 pub mod Unpadding

@@ -1,55 +1,41 @@
--- What is left of a list without the zeros at its end: it is the list's own beginning, and only its last element decides.
+-- What is left of a list without the zeros at its end: its own beginning, up to the last element that is another.
 -- Assumes nothing.
-use Prim.Native.Nat.{ℕ, zero, suc, ◌-◌, ◌≤◌, ◌<◌}
-use mathlib.Core.Path.{◌≡◌, refl, ap, ◌∙◌}
-use mathlib.Core.List.{List, [], ◌∷◌, ◌++◌}
-use native.Mathlib.Nat.{not-suc-le-zero}
+use Prim.Native.Nat.{ℕ, zero, suc, ◌+◌, ◌≤◌, ◌<◌}
+use mathlib.Core.Path.{◌≡◌, refl, ◌∙◌}
+use mathlib.Core.List.{List, [], ◌∷◌}
+use native.Mathlib.Numerals.{add-one}
 use native.Mathlib.Omega.{arith}
-use lib.ListN.{length, get_or, take, length-take}
-use lib.Seq.{take-suc, length-take-le}
+use lib.ListN.{length, get_or, take}
 use Rattle.model.specs.Codes.{kept_before, unpadded}
 
-before : (b : ℕ) (kept bs : List ℕ) → take (length kept) bs ≡ kept → take (length (kept_before b kept)) (b ∷ bs) ≡ kept_before b kept
-before zero [] bs e = refl
-before (suc b) [] bs e = refl
-before b (c ∷ cs) bs e = ap (λ (l : List ℕ). b ∷ l) e
-
-pub take-unpadded : (l : List ℕ) → take (length (unpadded l)) l ≡ unpadded l
+pub unpadded_none : (l : List ℕ) → ((k : ℕ) → k < length l → get_or l k 0 ≡ 0) → unpadded l ≡ []
 unfolding unpadded
-take-unpadded [] = refl
-take-unpadded (b ∷ bs) = before b (unpadded bs) bs (take-unpadded bs)
+unpadded_none [] zeros = refl
+unpadded_none (b ∷ l) zeros =
+    rw (unpadded_none l (λ k h. zeros (suc k) (omega arith)), zeros 0 (omega arith)) refl
+
+some_kept : (b : ℕ) → (b ≡ 0 → ⊥) → kept_before b [] ≡ b ∷ []
+some_kept zero ne = absurd (ne refl)
+some_kept (suc b) ne = refl
+
+pub unpadded_at_last : (l : List ℕ) (i : ℕ) → i < length l → (get_or l i 0 ≡ 0 → ⊥)
+    → ((k : ℕ) → i + 1 ≤ k → k < length l → get_or l k 0 ≡ 0) → unpadded l ≡ take (i + 1) l
+unfolding unpadded
+unpadded_at_last [] i inside other zeros = absurd (omega arith)
+unpadded_at_last (b ∷ l) zero inside other zeros =
+    rw (unpadded_none l (λ k h. zeros (suc k) (omega arith) (omega arith))) (some_kept b other)
+unpadded_at_last (b ∷ []) (suc i) inside other zeros = absurd (omega arith)
+unpadded_at_last (b ∷ c ∷ l) (suc i) inside other zeros =
+    let rest : unpadded (c ∷ l) ≡ take (suc i) (c ∷ l) =
+    unpadded_at_last (c ∷ l) i (omega arith) other (λ k h m. zeros (suc k) (omega arith) (omega arith)) ∙ rw add-one refl in
+    rw (add-one, rest) refl
+
+kept_short : (b : ℕ) (kept : List ℕ) → length (kept_before b kept) ≤ suc (length kept)
+kept_short zero [] = omega arith
+kept_short (suc b) [] = omega arith
+kept_short b (c ∷ kept) = omega arith
 
 pub length-unpadded : (l : List ℕ) → length (unpadded l) ≤ length l
-length-unpadded l = omega (arith, simp length-take at (ap length (take-unpadded l)))
-
-zero_off : (l : List ℕ) → unpadded (l ++ (0 ∷ [])) ≡ unpadded l
 unfolding unpadded
-zero_off [] = refl
-zero_off (b ∷ bs) = ap (kept_before b) (zero_off bs)
-
-other_kept : (b : ℕ) (l : List ℕ) → (b ≡ 0 → ⊥) → unpadded (l ++ (b ∷ [])) ≡ l ++ (b ∷ [])
-unfolding unpadded
-other_kept zero l ne = absurd (ne refl)
-other_kept (suc b) [] ne = refl
-other_kept (suc b) (c ∷ []) ne = refl
-other_kept (suc b) (c ∷ d ∷ l) ne = ap (kept_before c) (other_kept (suc b) (d ∷ l) ne)
-
--- the first n elements, of which there is a last
-module _ (l : List ℕ) (n : ℕ) (some : 0 < n) (h : n ≤ length l) where
-  take_last : take n l ≡ take (n - 1) l ++ (get_or l (n - 1) 0 ∷ [])
-  take_last =
-      let s : suc (n - 1) ≡ n = omega arith in
-      rw s at (take-suc l (n - 1) 0 (omega arith))
-
-  pub last_zero : get_or l (n - 1) 0 ≡ 0 → unpadded (take (n - 1) l) ≡ unpadded (take n l)
-  last_zero e = rw (take_last, e, zero_off)
-
-  pub last_other : (get_or l (n - 1) 0 ≡ 0 → ⊥) → length (unpadded (take n l)) ≡ n
-  last_other ne =
-      let kept : unpadded (take n l) ≡ take n l = rw take_last (other_kept (get_or l (n - 1) 0) (take (n - 1) l) ne) in
-      ap length kept ∙ length-take-le n l h
-
-pub none_left : (l : List ℕ) (n : ℕ) → n ≤ 0 → length (unpadded (take n l)) ≡ n
-unfolding unpadded
-none_left l zero h = refl
-none_left l (suc n) h = absurd (not-suc-le-zero h)
+length-unpadded [] = omega arith
+length-unpadded (b ∷ l) = omega (arith, kept_short b (unpadded l), length-unpadded l)

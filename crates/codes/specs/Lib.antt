@@ -1,2 +1,2 @@
--- The definition that a contract of this crate cites beside those of `model`.
-pub mod Held
+-- The definition that contracts of this crate cite beside those of `model`.
+pub mod Classes

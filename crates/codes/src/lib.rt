@@ -5,35 +5,34 @@
 
 mod classes;
 
-ghost use Rattle.std.specs.Prelude.{◌≡◌, ◌&&◌, [], ◌∷◌, ◌++◌, ◌+◌, ◌≤◌, eqb, length, get_or, take, drop};
+ghost use Rattle.std.specs.Prelude.{◌≡◌, ◌++◌, ◌+◌, ◌≤◌, length, take, drop};
 ghost use Rattle.model.specs.Words.{all, digits, big_endian};
-ghost use Rattle.model.specs.Codes.{is_code_byte, is_hyphen, spelled, padded, packed, unpadded, unpacked};
-ghost use Rattle.codes.specs.Held.{Holds};
+ghost use Rattle.model.specs.Codes.{is_code_byte, is_hyphen, spelled, packed, unpadded, unpacked};
 
-use classes::CLASSES;
+use classes::Class;
 use model::Code;
 
+// A code can hold the byte.
+#[tactic(auto, unfolding(model::specs::Codes::is_code_byte))]
+fn is_code_byte(byte: u8) -> bool
+    ensures { result ≡ is_code_byte byte }
+{
+    Class::from(byte) != Class::Other
+}
+
 // The byte is the hyphen.
+#[tactic(auto, unfolding(model::specs::Codes::is_hyphen))]
 fn is_hyphen(byte: u8) -> bool
     ensures { result ≡ is_hyphen byte }
 {
-    byte == b'-'
+    Class::from(byte) == Class::Hyphen
 }
 
-// A code can hold every byte of the slice: its class isn't 0. The table is laid out once for all of them.
+// A code can hold every byte of the slice.
 fn all_code_bytes(code: &[u8]) -> bool
     ensures { result ≡ all is_code_byte code.now }
 {
-    let classes = CLASSES;
-    let mut i = 0;
-    while i < code.len() {
-        let byte = code[i] as usize;
-        if classes[byte] == 0 {
-            return false;
-        }
-        i += 1;
-    }
-    true
+    code.iter().all(|byte| is_code_byte(*byte))
 }
 
 // The most bytes of a code.
@@ -44,131 +43,58 @@ const MOST_CODE: usize = 12;
 pub fn spelled(code: &[u8]) -> bool
     ensures { result ≡ spelled code.now }
 {
-    let n = code.len();
-    if n == 0 {
+    let (Some(first), Some(last)) = (code.first(), code.last()) else {
         return false;
-    }
-    if MOST_CODE < n {
-        return false;
-    }
-    if !all_code_bytes(code) {
-        return false;
-    }
-    if is_hyphen(code[0]) {
-        return false;
-    }
-    let last = n - 1;
-    !is_hyphen(code[last])
+    };
+    code.len() <= MOST_CODE && all_code_bytes(code) && !is_hyphen(*first) && !is_hyphen(*last)
 }
 
-// The byte at a place of a code, and 0 past its end.
-fn padded_at(code: &[u8], i: usize) -> u8
-    ensures { result ≡ get_or code.now i 0 }
-{
-    if i < code.len() { code[i] } else { 0 }
-}
-
-// Four bytes as a number, the highest first.
-pub fn word(a: u8, b: u8, c: u8, d: u8) -> u32
-    ensures { result ≡ big_endian (a ∷ b ∷ c ∷ d ∷ []) }
-{
-    (a as u32) * 16777216 + (b as u32) * 65536 + (c as u32) * 256 + (d as u32)
-}
-
-// The word that starts at a place of a code.
-fn word_at(code: &[u8], at: usize) -> u32
+// The word that starts at a place of a code's twelve bytes.
+fn word_at(bytes: &[u8; 12], at: usize) -> u32
     requires { at + 4 ≤ 12 }
-    ensures { result ≡ big_endian (take 4 (drop at (padded code.now))) }
+    ensures { result ≡ big_endian (take 4 (drop at bytes.now)) }
 {
-    word(
-        padded_at(code, at),
-        padded_at(code, at + 1),
-        padded_at(code, at + 2),
-        padded_at(code, at + 3),
-    )
+    u32::from_be_bytes([bytes[at], bytes[at + 1], bytes[at + 2], bytes[at + 3]])
 }
 
 // A code as three words. What stands past its twelfth byte is not in them.
 pub fn pack(code: &[u8]) -> Code
     ensures { result ≡ packed code.now }
 {
+    let mut bytes = [0; 12];
+    let len = code.len().min(MOST_CODE);
+    bytes[..len].copy_from_slice(&code[..len]);
     Code {
-        a: word_at(code, 0),
-        b: word_at(code, 4),
-        c: word_at(code, 8),
+        a: word_at(&bytes, 0),
+        b: word_at(&bytes, 4),
+        c: word_at(&bytes, 8),
     }
-}
-
-// The two codes are the same.
-pub fn same_code(v: Code, w: Code) -> bool
-    ensures { result ≡ (eqb v.a w.a && eqb v.b w.b && eqb v.c w.c) }
-{
-    if v.a != w.a {
-        return false;
-    }
-    if v.b != w.b {
-        return false;
-    }
-    v.c == w.c
-}
-
-// Twelve bytes and how many of them are the code: what three words hold.
-#[derive(Clone, Copy)]
-pub struct Bytes {
-    pub bytes: [u8; 12],
-    pub len: usize,
 }
 
 // The twelve bytes of three words.
-fn bytes_of(w: Code) -> [u8; 12]
+pub fn bytes_of(w: Code) -> [u8; 12]
     ensures { result ≡ digits 256 4 w.a ++ digits 256 4 w.b ++ digits 256 4 w.c }
 {
-    [
-        (w.a / 16777216 % 256) as u8,
-        (w.a / 65536 % 256) as u8,
-        (w.a / 256 % 256) as u8,
-        (w.a / 1 % 256) as u8,
-        (w.b / 16777216 % 256) as u8,
-        (w.b / 65536 % 256) as u8,
-        (w.b / 256 % 256) as u8,
-        (w.b / 1 % 256) as u8,
-        (w.c / 16777216 % 256) as u8,
-        (w.c / 65536 % 256) as u8,
-        (w.c / 256 % 256) as u8,
-        (w.c / 1 % 256) as u8,
-    ]
+    let [a0, a1, a2, a3] = w.a.to_be_bytes();
+    let [b0, b1, b2, b3] = w.b.to_be_bytes();
+    let [c0, c1, c2, c3] = w.c.to_be_bytes();
+    [a0, a1, a2, a3, b0, b1, b2, b3, c0, c1, c2, c3]
 }
 
-// How many bytes are left without the zeros at their end.
-fn unpadded_len(bytes: &[u8]) -> usize
-    ensures { result ≡ length (unpadded bytes.now) }
+// What is left of the bytes without the zeros at their end.
+pub fn unpadded(bytes: &[u8]) -> &[u8]
+    ensures { result.now ≡ unpadded bytes.now }
 {
-    let mut n = bytes.len();
-    while 0 < n {
-        let last = n - 1;
-        if bytes[last] != 0 {
-            return n;
-        }
-        n = last;
+    match bytes.iter().rposition(|byte| *byte != 0) {
+        Some(last) => &bytes[..=last],
+        None => &[],
     }
-    n
-}
-
-// The code that three words hold.
-pub fn unpack(w: Code) -> Bytes
-    ensures { Holds result (unpacked w) }
-{
-    let bytes = bytes_of(w);
-    let len = unpadded_len(&bytes);
-    Bytes { bytes, len }
 }
 
 // Three words hold a code that is spelled right.
+#[tactic(auto, unfolding(model::specs::Codes::unpacked))]
 pub fn spelled_words(w: Code) -> bool
     ensures { result ≡ spelled (unpacked w) }
 {
-    let read = unpack(w);
-    let bytes = read.bytes;
-    let len = read.len;
-    spelled(&bytes[..len])
+    spelled(unpadded(&bytes_of(w)))
 }

@@ -1,14 +1,10 @@
--- The cells of a design in lent words, and overlap by the set of rights handed over.
+-- Overlap, by the set of rights handed over.
 -- Assumes nothing.
 use Rattle.std.specs.Prelude.{ℕ, Bool, ◌&&◌, List, ltb, eqb}
+use Rattle.model.specs.Words.{any, numbers_from}
 use Rattle.model.specs.Rights.{common, meets}
 use Rattle.model.specs.Rosters.{Person, type_at}
 use Rattle.model.specs.Forms.{cell_at}
-use Rattle.stores.specs.Standing.{design_in}
-
--- the cells of the design
-abbrev pub cells_at : List ℕ → ℕ → List ℕ
-cells_at store place = (design_in store place).cells
 
 -- two people have one type, and hold the same right of the set
 abbrev pub share : ℕ → List Person → List ℕ → ℕ → ℕ → Bool
@@ -17,3 +13,7 @@ share set people cells a b = eqb (type_at people a) (type_at people b) && meets 
 -- a clash, by the set of the rights that are both propagation and deletable
 abbrev pub clash_by : ℕ → List Person → List ℕ → ℕ → ℕ → Bool
 clash_by set people cells a b = ltb a b && share set people cells a b
+
+-- somebody among the first n people clashes with a
+unfoldable pub clashes : ℕ → ℕ → List Person → List ℕ → ℕ → Bool
+clashes set n people cells a = any (clash_by set people cells a) (numbers_from 0 n)

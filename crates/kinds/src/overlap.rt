@@ -1,66 +1,33 @@
 // Overlap: two people of one type hold the same right that is both propagation and deletable. The set handed over is those rights.
-ghost use Rattle.std.specs.Prelude.{List, ◌≡◌, ℕ, ◌<◌};
+ghost use Rattle.std.specs.Prelude.{List, ◌≡◌, ℕ, ◌<◌, ◌≤◌, length};
 ghost use Rattle.model.specs.declared.Command.{Command};
-ghost use Rattle.model.specs.Words.{any, numbers_from};
 ghost use Rattle.model.specs.Rosters.{roster_of};
 ghost use Rattle.model.specs.Kinds.{both, overlaps};
-ghost use Rattle.stores.specs.Standing.{Placed};
-ghost use Rattle.kinds.specs.Designs.{cells_at, share, clash_by};
+ghost use Rattle.kinds.specs.Designs.{share, clashes};
+
+use rosters::Roster;
 
 // Two people have one type, and hold the same right of the set at the design.
-fn share(
-    set: u32,
-    roster: &[u32],
-    people: usize,
-    store: &[u32],
-    place: usize,
-    a: usize,
-    b: usize,
-) -> bool
-    requires { Placed people roster.now store.now place × ((a < people) × (b < people)) }
-    ensures { result ≡ share set (roster_of people roster.now) (cells_at store.now place) a b }
+fn share(set: u32, roster: &Roster, cells: &[u32], a: usize, b: usize) -> bool
+    requires { (a < roster.now.people) × (b < roster.now.people) × (32 ≤ length cells.now) }
+    ensures { result ≡ share set (roster_of roster.now.people roster.now.words.now) cells.now a b }
 {
-    if rosters::type_at(roster, a) != rosters::type_at(roster, b) {
-        return false;
-    }
-    let held = rights::common(
-        stores::cell_at(store, place, a),
-        stores::cell_at(store, place, b),
-    );
-    rights::meets(held, set)
+    roster.type_at(a) == roster.type_at(b) && rights::meets(rights::common(cells[a], cells[b]), set)
 }
 
 // Person a overlaps with someone behind it.
-fn overlaps_behind(
-    set: u32,
-    roster: &[u32],
-    people: usize,
-    store: &[u32],
-    place: usize,
-    a: usize,
-) -> bool
-    requires { Placed people roster.now store.now place × (a < people) }
-    ensures { result ≡ any (clash_by set (roster_of people roster.now) (cells_at store.now place) a) (numbers_from 0 people) }
+#[tactic(auto, unfolding(crate::specs::Designs::clashes))]
+fn overlaps_behind(set: u32, roster: &Roster, cells: &[u32], a: usize) -> bool
+    requires { (a < roster.now.people) × (32 ≤ length cells.now) }
+    ensures { result ≡ clashes set roster.now.people (roster_of roster.now.people roster.now.words.now) cells.now a }
 {
-    let mut b = a + 1;
-    while b < people {
-        if share(set, roster, people, store, place, a, b) {
-            return true;
-        }
-        b += 1;
-    }
-    false
+    (0..roster.people).any(|b| a < b && share(set, roster, cells, a, b))
 }
 
 // Some two people overlap.
-pub fn overlaps(set: u32, roster: &[u32], people: usize, store: &[u32], place: usize) -> bool
-    requires { Placed people roster.now store.now place }
-    ensures { (commands : List Command) (kind : ℕ) → set ≡ both commands kind → result ≡ overlaps commands kind (roster_of people roster.now) (cells_at store.now place) }
+pub fn overlaps(set: u32, roster: &Roster, cells: &[u32]) -> bool
+    requires { 32 ≤ length cells.now }
+    ensures { (commands : List Command) (kind : ℕ) → set ≡ both commands kind → result ≡ overlaps commands kind (roster_of roster.now.people roster.now.words.now) cells.now }
 {
-    for a in 0..people {
-        if overlaps_behind(set, roster, people, store, place, a) {
-            return true;
-        }
-    }
-    false
+    (0..roster.people).any(|a| overlaps_behind(set, roster, cells, a))
 }

@@ -1,16 +1,14 @@
 -- Laws of numbers by their digits, in any base and at any width: there and back, by induction on the digits, of which the highest is split off.
 -- Assumes nothing.
-use Prim.Native.Nat.{ℕ, zero, suc, ◌+◌, ◌-◌, ◌*◌, ◌/◌, ◌%◌, ◌^◌, ◌≤◌, ◌<◌}
+use Prim.Native.Nat.{ℕ, zero, suc, ◌+◌, ◌-◌, ◌*◌, ◌/◌, ◌%◌, ◌^◌, ◌<◌}
 use mathlib.Core.Path.{◌≡◌, refl, sym, ap, ◌∙◌}
 use mathlib.Core.List.{List, [], ◌∷◌, ◌++◌}
 use native.Mathlib.Nat.{zero-mul, zero-add, one-le-pow, pow-zero, pow-succ', mod-lt, mod-one, mod-eq_of_lt, mul_assoc, div-one, div-div-eq-div-mul, mul-add-div_right, mul-add-mod_self_right, suc-sub-suc, sub-zero}
-use native.Mathlib.Numerals.{add-one, add-two, add-three}
 use native.Mathlib.Omega.{arith}
 use lib.Arith.{digits_lt, digits_div, mod-mul}
-use lib.ListN.{length, get_or, take, drop, length-append}
+use lib.ListN.{length, get_or, length-append}
 use lib.Pow.{pow-add}
-use lib.Seq.{drop-cons}
-use Rattle.model.specs.Words.{digits, number_of, big_endian}
+use Rattle.model.specs.Words.{digits, number_of}
 
 -- ---- the digits of a number
 
@@ -84,20 +82,3 @@ pub number_append : (base : ℕ) (ds es : List ℕ) → number_of base (ds ++ es
 number_append base [] es = rw (zero-mul (base ^ length es), zero-add (number_of base es)) refl
 number_append base (d ∷ ds) es =
     rw (length-append ds es, pow-add base (length ds) (length es), number_append base ds es) (omega arith)
-
--- ---- bytes
-
-pub four_bytes : (a b c d : ℕ) → big_endian (a ∷ b ∷ c ∷ d ∷ []) ≡ ((a * 256 + b) * 256 + c) * 256 + d
-four_bytes a b c d = omega arith
-
--- two bytes and four at a place of a row
-pub two_at : (bytes : List ℕ) (i : ℕ) → i + 2 ≤ length bytes → big_endian (take 2 (drop i bytes)) ≡ get_or bytes i 0 * 256 + get_or bytes (i + 1) 0
-two_at bytes i l = rw (add-one i, drop-cons bytes i 0 (omega arith), drop-cons bytes (suc i) 0 (omega arith)) (omega arith)
-
-pub four_at : (bytes : List ℕ) (i : ℕ) → i + 4 ≤ length bytes
-    → big_endian (take 4 (drop i bytes))
-    ≡ ((get_or bytes i 0 * 256 + get_or bytes (i + 1) 0) * 256 + get_or bytes (i + 2) 0) * 256 + get_or bytes (i + 3) 0
-four_at bytes i l =
-    rw (add-one i, add-two i, add-three i)
-    (rw (drop-cons bytes i 0 (omega arith), drop-cons bytes (suc i) 0 (omega arith))
-    (rw (drop-cons bytes (suc (suc i)) 0 (omega arith), drop-cons bytes (suc (suc (suc i))) 0 (omega arith)) (omega arith)))

@@ -1,6 +1,7 @@
 pub mod Tests
 pub mod Bits
 pub mod Lists
+pub mod Refusals
 pub mod Digits
 pub mod Codes
 pub mod Forms

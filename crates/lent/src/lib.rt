@@ -4,42 +4,37 @@
 
 ghost use Rattle.std.specs.Prelude.{◌≡◌, ◌≤◌, length, take};
 ghost use Rattle.model.specs.Words.{written_over};
-ghost use Rattle.lent.specs.Loads.{loaded_of};
+ghost use Rattle.model.specs.Outcomes.{scheme_from};
+ghost use Rattle.schemes.specs.Loads.{loaded_from};
 
-use model::{Command, SchemeRead};
-use schemes::{Loaded, empty, kept};
+use model::Command;
+use schemes::{Loaded, MOST_COMMANDS};
 
-// The commands as a scheme by value whose three counts are still 0: the first 64 are kept, and all are counted.
-pub fn load(commands: &[Command]) -> Loaded
-    ensures { result ≡ loaded_of commands.now }
+// The commands are written from the list's beginning.
+#[tactic(auto, unfolding(model::specs::Words::written_over))]
+fn write_over(list: &mut [Command], commands: &[Command])
+    requires { length commands.now ≤ length list.old }
+    ensures { list.new ≡ written_over commands.now list.old }
 {
-    let mut l = empty(0, 0, 0);
-    let count = commands.len();
-    l.count = count;
-    let most = kept(count);
-    let mut i: usize = 0;
-    while i < most {
-        l.commands[i] = commands[i];
-        i += 1;
-    }
+    list[..commands.len()].copy_from_slice(commands);
+}
+
+// The commands, with the scheme's counts, as a scheme by value: the first 64 are kept, and all are counted.
+#[tactic(auto, unfolding(schemes::specs::Loads::loaded_from, schemes::specs::Loads::unloaded))]
+pub fn load(commands: &[Command], types: usize, kinds: usize, rights: usize) -> Loaded
+    ensures { result ≡ loaded_from (scheme_from commands.now types kinds rights) }
+{
+    let mut l = Loaded::empty(types, kinds, rights);
+    l.count = commands.len();
+    let kept = commands.len().min(MOST_COMMANDS);
+    write_over(&mut l.commands, &commands[..kept]);
     l
 }
 
 // The commands of a scheme by value, written from the list's beginning.
-pub fn store_all(commands: &mut [Command], l: Loaded)
-    requires { (l.count ≤ 64) × (l.count ≤ length commands.old) }
-    ensures { commands.new ≡ written_over (take l.count l.commands) commands.old }
+pub fn store_all(commands: &mut [Command], l: &Loaded)
+    requires { (l.now.count ≤ 64) × (l.now.count ≤ length commands.old) }
+    ensures { commands.new ≡ written_over (take l.now.count l.now.commands) commands.old }
 {
-    let mut i: usize = 0;
-    while i < l.count {
-        commands[i] = l.commands[i];
-        i += 1;
-    }
-}
-
-// What the call that fills the list goes on with: its answer, and the scheme whose commands it writes.
-#[derive(Clone, Copy)]
-pub struct Filled {
-    pub answer: SchemeRead,
-    pub scheme: Loaded,
+    write_over(commands, l.kept());
 }

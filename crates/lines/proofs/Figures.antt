@@ -1,15 +1,31 @@
--- The figures of a number in decimal, by how many it has, and of a set of rights in hexadecimal; and how long they are.
+-- The figures of a number in decimal, by how many it has, and of a set of rights in hexadecimal; and how long words are.
 -- Assumes nothing.
-use Prim.Native.Nat.{ℕ, zero, suc, ◌/◌, ◌%◌, ◌<◌, ◌≤◌}
-use mathlib.Core.List.{List, [], ◌∷◌, ◌++◌}
-use mathlib.Core.Path.{◌≡◌, refl}
+use Prim.Native.Nat.{ℕ, zero, suc, ◌+◌, ◌-◌, ◌*◌, ◌/◌, ◌%◌, ◌^◌, ◌<◌, ◌≤◌}
+use mathlib.Core.List.{List, [], ◌∷◌, ◌++◌, map, map-append, append_assoc}
+use mathlib.Core.Path.{◌≡◌, refl, ap, ◌∙◌}
+use native.Mathlib.Nat.{pow-le-pow_right}
 use native.Mathlib.Omega.{arith}
 use lib.ListN.{length, length-map}
+use Rattle.std.proofs.Common.{max}
 use Rattle.model.specs.Words.{digits}
 use Rattle.model.specs.declared.Code.{Code}
 use Rattle.model.specs.Codes.{unpacked}
+use Rattle.laws.proofs.Digits.{digits_last}
 use Rattle.codes.proofs.Unpadding.{length-unpadded}
 use Rattle.model.specs.Lines.{digit_byte, trimmed, decimal, hexadecimal}
+
+-- ---- digit after digit
+
+pub digits_more : (line : List ℕ) (base width n : ℕ) → 0 < width
+    → line ++ map digit_byte (digits base width n) ≡ (line ++ map digit_byte (digits base (width - 1) (n / base))) ++ (digit_byte (n % base) ∷ [])
+digits_more line base zero n some = absurd (omega arith)
+digits_more line base (suc w) n some =
+    let e : suc w - 1 ≡ w = omega arith in
+    rw (e, append_assoc)
+    (ap (λ (ds : List ℕ). line ++ map digit_byte ds) (digits_last base w n)
+    ∙ ap (λ (bytes : List ℕ). line ++ bytes) (map-append digit_byte (digits base w (n / base)) (n % base ∷ [])))
+
+-- ---- in decimal
 
 -- a first digit that isn't zero stays
 trimmed_kept : (d e : ℕ) (ds : List ℕ) → 0 < d → trimmed (d ∷ e ∷ ds) ≡ d ∷ e ∷ ds
@@ -17,52 +33,50 @@ unfolding trimmed
 trimmed_kept zero e ds h = absurd (omega arith)
 trimmed_kept (suc d) e ds h = refl
 
+-- and one that is zero goes
+trimmed_zero : (d e : ℕ) (ds : List ℕ) → d ≡ 0 → trimmed (d ∷ e ∷ ds) ≡ trimmed (e ∷ ds)
+unfolding trimmed
+trimmed_zero zero e ds h = refl
+trimmed_zero (suc d) e ds h = absurd (omega arith)
+
 module _ (n : ℕ) where
-  pub decimal_1 : n < 10 → decimal n ≡ digit_byte (n % 10) ∷ []
-  unfolding decimal trimmed
-  decimal_1 h =
-      let a : n / 1000 % 10 ≡ 0 = omega arith in
-      let b : n / 100 % 10 ≡ 0 = omega arith in
-      let c : n / 10 % 10 ≡ 0 = omega arith in
-      let d : n / 1 % 10 ≡ n % 10 = omega arith in
-      rw (a, b, c, d)
+  below_4 : n < 1000 → trimmed (digits 10 4 n) ≡ trimmed (digits 10 3 n)
+  below_4 h = trimmed_zero (n / 1000 % 10) (n / 100 % 10) (digits 10 2 n) (omega arith)
 
-  pub decimal_2 : 10 ≤ n → n < 100 → decimal n ≡ digit_byte (n / 10 % 10) ∷ digit_byte (n % 10) ∷ []
-  unfolding decimal trimmed
-  decimal_2 h k =
-      let a : n / 1000 % 10 ≡ 0 = omega arith in
-      let b : n / 100 % 10 ≡ 0 = omega arith in
-      let d : n / 1 % 10 ≡ n % 10 = omega arith in
-      let first : n / 10 % 10 ≡ n / 10 = omega arith in
-      rw (a, b, d, trimmed_kept (n / 10 % 10) (n % 10) [] (omega arith))
+  below_3 : n < 100 → trimmed (digits 10 3 n) ≡ trimmed (digits 10 2 n)
+  below_3 h = trimmed_zero (n / 100 % 10) (n / 10 % 10) (digits 10 1 n) (omega arith)
 
-  pub decimal_3 : 100 ≤ n → n < 1000 → decimal n ≡ digit_byte (n / 100 % 10) ∷ digit_byte (n / 10 % 10) ∷ digit_byte (n % 10) ∷ []
-  unfolding decimal trimmed
-  decimal_3 h k =
-      let a : n / 1000 % 10 ≡ 0 = omega arith in
-      let d : n / 1 % 10 ≡ n % 10 = omega arith in
-      let first : n / 100 % 10 ≡ n / 100 = omega arith in
-      rw (a, d, trimmed_kept (n / 100 % 10) (n / 10 % 10) (n % 10 ∷ []) (omega arith))
+  below_2 : n < 10 → trimmed (digits 10 2 n) ≡ digits 10 1 n
+  unfolding trimmed
+  below_2 h = trimmed_zero (n / 10 % 10) (n / 1 % 10) [] (omega arith)
 
-  pub decimal_4 : 1000 ≤ n → n < 10000
-      → decimal n ≡ digit_byte (n / 1000) ∷ digit_byte (n / 100 % 10) ∷ digit_byte (n / 10 % 10) ∷ digit_byte (n % 10) ∷ []
-  unfolding decimal
-  decimal_4 h k =
-      let a : n / 1000 % 10 ≡ n / 1000 = omega arith in
-      let d : n / 1 % 10 ≡ n % 10 = omega arith in
-      rw (a, d, trimmed_kept (n / 1000) (n / 100 % 10) (n / 10 % 10 ∷ n % 10 ∷ []) (omega arith))
+  -- the power of ten that a number has, with 0 taken as 1
+  module _ (least : ℕ) (one : least ≡ max n 1) (few : n < 10000) where
+    pub few_figures : (k : ℕ) → 10 ^ k ≤ least → k ≤ 3
+    few_figures zero low = omega arith
+    few_figures (suc zero) low = omega arith
+    few_figures (suc (suc zero)) low = omega arith
+    few_figures (suc (suc (suc zero))) low = omega arith
+    few_figures (suc (suc (suc (suc k)))) low =
+        absurd (omega (arith, pow-le-pow_right {n = 10} (omega arith) {i = 4} {j = suc (suc (suc (suc k)))} (omega arith)))
 
-  pub hexadecimal_8 : hexadecimal n
-      ≡ digit_byte (n / 268435456 % 16) ∷ digit_byte (n / 16777216 % 16) ∷ digit_byte (n / 1048576 % 16) ∷ digit_byte (n / 65536 % 16)
-      ∷ digit_byte (n / 4096 % 16) ∷ digit_byte (n / 256 % 16) ∷ digit_byte (n / 16 % 16) ∷ digit_byte (n % 16) ∷ []
-  unfolding hexadecimal
-  hexadecimal_8 = let a : n / 1 % 16 ≡ n % 16 = omega arith in rw a
+    -- without leading zeros there are one more digits
+    figures : (k : ℕ) → 10 ^ k ≤ least → least < 10 * 10 ^ k → trimmed (digits 10 4 n) ≡ digits 10 (k + 1) n
+    figures zero low high = below_4 (omega arith) ∙ below_3 (omega arith) ∙ below_2 (omega arith)
+    figures (suc zero) low high = below_4 (omega arith) ∙ below_3 (omega arith) ∙ trimmed_kept (n / 10 % 10) (n / 1 % 10) [] (omega arith)
+    figures (suc (suc zero)) low high = below_4 (omega arith) ∙ trimmed_kept (n / 100 % 10) (n / 10 % 10) (digits 10 1 n) (omega arith)
+    figures (suc (suc (suc zero))) low high = trimmed_kept (n / 1000 % 10) (n / 100 % 10) (digits 10 2 n) (omega arith)
+    figures (suc (suc (suc (suc k)))) low high = absurd (omega (arith, few_figures (suc (suc (suc (suc k)))) low))
 
-  -- ---- how long
+    pub decimal_digits : (k : ℕ) → 10 ^ k ≤ least → least < 10 * 10 ^ k → decimal n ≡ map digit_byte (digits 10 (k + 1) n)
+    unfolding decimal
+    decimal_digits k low high = ap (map digit_byte) (figures k low high)
 
-  pub length-hexadecimal : length (hexadecimal n) ≡ 8
-  unfolding hexadecimal
-  length-hexadecimal = refl
+-- ---- how long
+
+pub length-hexadecimal : (n : ℕ) → length (hexadecimal n) ≡ 8
+unfolding hexadecimal
+length-hexadecimal n = refl
 
 length-trimmed : (ds : List ℕ) → length (trimmed ds) ≤ length ds
 unfolding trimmed
@@ -75,6 +89,16 @@ pub length-decimal : (n : ℕ) → length (decimal n) ≤ 4
 unfolding decimal
 length-decimal n = simp length-map (length-trimmed (digits 10 4 n))
 
-pub length-unpacked : (w : Code) → length (unpacked w) ≤ 12
+-- no longer than the power of ten that it is below
+pub length-decimal_below : (n width : ℕ) → 0 < width → n < 10 ^ width → length (decimal n) ≤ width
+unfolding decimal
+length-decimal_below n zero some h = absurd (omega arith)
+length-decimal_below n (suc zero) some h = rw (below_4 n (omega arith), below_3 n (omega arith), below_2 n (omega arith)) (omega arith)
+length-decimal_below n (suc (suc zero)) some h =
+    rw (below_4 n (omega arith), below_3 n (omega arith)) (simp length-map (length-trimmed (digits 10 2 n)))
+length-decimal_below n (suc (suc (suc zero))) some h = rw (below_4 n (omega arith)) (simp length-map (length-trimmed (digits 10 3 n)))
+length-decimal_below n (suc (suc (suc (suc k)))) some h = omega (arith, length-decimal n)
+
+pub unpacked_short : (w : Code) → length (unpacked w) ≤ 12
 unfolding unpacked
-length-unpacked w = length-unpadded (digits 256 4 w.a ++ digits 256 4 w.b ++ digits 256 4 w.c)
+unpacked_short w = length-unpadded (digits 256 4 w.a ++ digits 256 4 w.b ++ digits 256 4 w.c)

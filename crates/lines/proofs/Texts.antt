@@ -1,22 +1,29 @@
 -- A lent text, with one thing after the other put into it: the parts compose.
 -- Assumes nothing.
-use Prim.Native.Nat.{ℕ, ◌+◌, ◌≤◌, ◌<◌}
-use mathlib.Core.List.{List, [], ◌∷◌, ◌++◌, append-nil, append_assoc}
+use Prim.Native.Nat.{ℕ, ◌+◌, ◌-◌, ◌≤◌}
+use mathlib.Core.List.{List, [], ◌++◌, append-nil, append_assoc}
 use mathlib.Core.Path.{◌≡◌, sym, ap, ◌∙◌}
-use native.Mathlib.Numerals.{add-one}
 use native.Mathlib.Omega.{arith}
-use lib.ListN.{length, get_or, take, set, length-append, length-take}
-use lib.Seq.{length-take-le, take-suc}
+use borrow.Rule.Slice.PartMut.{put_mid}
+use lib.ListN.{length, take, drop, length-append}
+use lib.Seq.{length-take-le, drop-drop}
 use Rattle.model.specs.Words.{written_over}
-use Rattle.laws.proofs.Lists.{length-written, take-written, written_snoc, written_own, written_again}
-use Rattle.lines.specs.declared.Line.{Line}
-use Rattle.lines.specs.Lines.{Says, Fits, Put}
+use Rattle.laws.proofs.Lists.{length-written, take-written, written_own, written_again}
+use Rattle.lines.specs.Lines.{Put}
 
 length-head : (at : ℕ) (text more : List ℕ) → at ≤ length text → length (take at text ++ more) ≡ at + length more
 length-head at text more h = length-append (take at text) more ∙ ap (λ (n : ℕ). n + length more) (length-take-le at text h)
 
 pub put_none : (at : ℕ) (text : List ℕ) → at ≤ length text → Put [] at text at text
 put_none at text h = record { ends = omega arith; inside = h; wrote = rw append-nil (sym (written_own at text h)) }
+
+-- a part of the text that is copied
+pub put_copied : (at end : ℕ) (text more : List ℕ) → end ≡ at + length more → end ≤ length text → Put more at text end (put_mid at (end - at) text more)
+unfolding written_over
+put_copied at end text more e h =
+    let part : end - at ≡ length more = omega arith in
+    let head : length (take at text ++ more) ≡ at + length more = length-head at text more (omega arith) in
+    record { ends = e; inside = h; wrote = rw (part, head, drop-drop (length more) at text, append_assoc (take at text) more (drop (at + length more) text)) }
 
 module _ {more : List ℕ} {at : ℕ} {text : List ℕ} {end : ℕ} {next : List ℕ} (p : Put more at text end next) where
   -- the text keeps its length
@@ -42,17 +49,5 @@ module _ {more : List ℕ} {at : ℕ} {text : List ℕ} {end : ℕ} {next : List
   put_said e = rw (← e) p
 
 -- a line, of which it is known what it says, may be put where there is room for that
-pub line_room : {l : Line} {says : List ℕ} → Says l says → (at : ℕ) (text : List ℕ) → at + length says ≤ length text
-    → Fits l 0 × (at + l.len ≤ length text)
-line_room {l} s at text h =
-    let short = simp length-take at (ap length s.says) in
-    (record { room = omega (arith, short); whole = s.whole }, omega arith)
-
--- one byte more, put in its place
-pub byte_put : (at i : ℕ) (bytes text next : List ℕ) → i < length bytes → at + i < length text → next ≡ written_over (take at text ++ take i bytes) text
-    → set next (at + i) (get_or bytes i 0) ≡ written_over (take at text ++ take (i + 1) bytes) text
-byte_put at i bytes text next h k e =
-    let n : length (take at text ++ take i bytes) ≡ at + i = length-head at text (take i bytes) (omega arith) ∙ ap (λ (m : ℕ). at + m) (length-take-le i bytes (omega arith)) in
-    let more : take (i + 1) bytes ≡ take i bytes ++ (get_or bytes i 0 ∷ []) = rw (add-one i) (take-suc bytes i 0 h) in
-    rw (e, more, ← append_assoc (take at text) (take i bytes) (get_or bytes i 0 ∷ []), ← n)
-    (sym (written_snoc (take at text ++ take i bytes) text (get_or bytes i 0) (omega arith)))
+pub line_room : {l says : List ℕ} → l ≡ says → (at : ℕ) (text : List ℕ) → at + length says ≤ length text → at + length l ≤ length text
+line_room e at text h = rw e h

@@ -2,221 +2,197 @@
 // Lines. Inner functions: none is offered outside.
 #![tactic(auto)]
 
-ghost use Rattle.std.specs.Prelude.{[], ◌∷◌, ◌≡◌, ◌+◌, ◌<◌, ◌≤◌, length};
+ghost use Rattle.std.specs.Prelude.{◌≡◌, ◌+◌, ◌<◌, ◌≤◌, List, [], ◌∷◌, ◌++◌, length, map};
+ghost use Rattle.model.specs.Words.{digits};
 ghost use Rattle.model.specs.Codes.{unpacked};
 ghost use Rattle.model.specs.Lines.{digit_byte, decimal, hexadecimal, line, line_x};
-ghost use Rattle.lines.specs.Lines.{text_of, Says, Fits, Longer, Put};
+ghost use Rattle.lines.specs.Lines.{Put};
 
-use codes::unpack;
+use arrayvec::ArrayVec;
+use codes::{bytes_of, unpadded};
 use model::Code;
+use std::marker::Model;
 
-// What stands before a word, and what ends a line.
-const SPACE: u8 = 32;
-
-const NEWLINE: u8 = 10;
-
-// A line so far: its first bytes. The longest line has 24.
-#[derive(Clone, Copy)]
+// A line so far, seen as its bytes. The longest line has 24.
+#[derive(Drop)]
 pub struct Line {
-    pub bytes: [u8; 32],
-    pub len: usize,
+    bytes: ArrayVec<u8, 32>,
 }
 
-// No byte yet.
-fn empty() -> Line
-    ensures { Says result [] }
-{
-    Line {
-        bytes: [0u8; 32],
-        len: 0,
-    }
-}
+impl Model for Line {
+    ghost use Rattle.std.specs.Prelude.{ℕ, List};
 
-// One byte more.
-fn byte(l: Line, b: u8) -> Line
-    requires { Fits l 1 }
-    ensures { Longer l (b ∷ []) result }
-{
-    let mut next = l;
-    let at = next.len;
-    next.bytes[at] = b;
-    next.len = at + 1;
-    next
+    ghost Value = { List ℕ };
+
+    ghost view = { λ l. l.bytes.items };
 }
 
 // The byte of a digit: 0 to 9, A to F.
+#[tactic(auto, unfolding(model::specs::Lines::digit_byte))]
 fn digit_byte(d: u8) -> u8
     requires { d < 16 }
     ensures { result ≡ digit_byte d }
 {
-    if d < 10 { 48 + d } else { 55 + d }
+    if d < 10 { b'0' + d } else { b'A' + (d - 10) }
 }
 
-// One digit more.
-fn digit(l: Line, d: u8) -> Line
-    requires { (d < 16) × Fits l 1 }
-    ensures { Longer l (digit_byte d ∷ []) result }
-{
-    byte(l, digit_byte(d))
-}
-
-// A number in decimal: none that is printed has more than four digits.
-fn decimal(l: Line, n: usize) -> Line
-    requires { (n < 10000) × Fits l 4 }
-    ensures { Longer l (decimal n) result }
-{
-    let ones = (n % 10) as u8;
-    if n < 10 {
-        return digit(l, ones);
+impl Line {
+    // A line that begins with its letter.
+    fn new(letter: u8) -> Line
+        ensures { result ≡ letter ∷ [] }
+    {
+        let mut bytes = ArrayVec::new();
+        bytes.push(letter);
+        Line { bytes }
     }
-    let tens = (n / 10 % 10) as u8;
-    if n < 100 {
-        return digit(digit(l, tens), ones);
+
+    // One byte more.
+    fn push(mut self, byte: u8) -> Line
+        requires { length self < 32 }
+        ensures text { result ≡ self ++ byte ∷ [] }
+        ensures room { length result ≡ length self + 1 }
+    {
+        self.bytes.push(byte);
+        self
     }
-    let hundreds = (n / 100 % 10) as u8;
-    if n < 1000 {
-        return digit(digit(digit(l, hundreds), tens), ones);
+
+    // All of these bytes more.
+    fn extend(mut self, bytes: &[u8]) -> Line
+        requires { length self + length bytes.now ≤ 32 }
+        ensures text { result ≡ self ++ bytes.now }
+        ensures room { length result ≡ length self + length bytes.now }
+    {
+        self.bytes.try_extend_from_slice(bytes).unwrap();
+        self
     }
-    let thousands = (n / 1000) as u8;
-    digit(digit(digit(digit(l, thousands), hundreds), tens), ones)
-}
 
-// Rights as eight hexadecimal digits.
-fn hexadecimal(l: Line, rights: u32) -> Line
-    requires { Fits l 8 }
-    ensures { Longer l (hexadecimal rights) result }
-{
-    let a = digit(l, (rights / 268435456 % 16) as u8);
-    let b = digit(a, (rights / 16777216 % 16) as u8);
-    let c = digit(b, (rights / 1048576 % 16) as u8);
-    let d = digit(c, (rights / 65536 % 16) as u8);
-    let e = digit(d, (rights / 4096 % 16) as u8);
-    let f = digit(e, (rights / 256 % 16) as u8);
-    let g = digit(f, (rights / 16 % 16) as u8);
-    digit(g, (rights % 16) as u8)
-}
-
-// A code, from its three words.
-fn code(l: Line, w: Code) -> Line
-    requires { Fits l 12 }
-    ensures { Longer l (unpacked w) result }
-{
-    let read = unpack(w);
-    let bytes = read.bytes;
-    let n = read.len;
-    let mut r = l;
-    let mut i = 0;
-    while i < n {
-        r = byte(r, bytes[i]);
-        i += 1;
+    // The last digits of a number in a base, the highest first.
+    // Stays by hand: no clause says when a `write!` succeeds, and the library's digits without it are decimal alone.
+    #[tactic(auto, using(crate::proofs::Figures::digits_more))]
+    fn digits(self, base: usize, width: u32, n: usize) -> Line
+        requires { (0 < base) × (base ≤ 16) × (length self + width ≤ 32) }
+        ensures text { result ≡ self ++ map digit_byte (digits base width n) }
+        ensures room { length result ≡ length self + width }
+    {
+        if width == 0 {
+            return self;
+        }
+        let last = digit_byte((n % base) as u8);
+        self.digits(base, width - 1, n / base).push(last)
     }
-    r
-}
 
-// A line that begins with its letter.
-fn start(letter: u8) -> Line
-    ensures { Says result (letter ∷ []) }
-{
-    byte(empty(), letter)
-}
+    // One word more, after a space: a number in decimal, of which none that is printed has more than four digits.
+    fn number(self, n: usize) -> Line
+        requires { (n < 10000) × (length self + 5 ≤ 32) }
+        ensures text { result ≡ self ++ 32 ∷ decimal n }
+        ensures room { length result ≤ length self + 5 }
+    {
+        // also 0 has a digit
+        let width = n.max(1).ilog10() + 1;
+        self.push(b' ').digits(10, width, n)
+    }
 
-// One word more, after a space: a number in decimal.
-fn with_number(l: Line, n: usize) -> Line
-    requires { (n < 10000) × Fits l 5 }
-    ensures { Longer l (32 ∷ decimal n) result × (result.len ≤ l.len + 5) }
-{
-    decimal(byte(l, SPACE), n)
-}
+    // One word more: rights as eight hexadecimal digits.
+    #[tactic(auto, unfolding(model::specs::Lines::hexadecimal))]
+    fn rights(self, rights: u32) -> Line
+        requires { length self + 9 ≤ 32 }
+        ensures text { result ≡ self ++ 32 ∷ hexadecimal rights }
+        ensures room { length result ≤ length self + 9 }
+    {
+        self.push(b' ').digits(16, 8, rights as usize)
+    }
 
-// One word more: rights in hexadecimal.
-fn with_rights(l: Line, rights: u32) -> Line
-    requires { Fits l 9 }
-    ensures { Longer l (32 ∷ hexadecimal rights) result × (result.len ≤ l.len + 9) }
-{
-    hexadecimal(byte(l, SPACE), rights)
-}
+    // One word more: a code, from its three words.
+    fn code(self, w: Code) -> Line
+        requires { length self + 13 ≤ 32 }
+        ensures text { result ≡ self ++ 32 ∷ unpacked w }
+        ensures room { length result ≤ length self + 13 }
+    {
+        self.push(b' ').extend(unpadded(&bytes_of(w)))
+    }
 
-// One word more: a code.
-fn with_code(l: Line, w: Code) -> Line
-    requires { Fits l 13 }
-    ensures { Longer l (32 ∷ unpacked w) result × (result.len ≤ l.len + 13) }
-{
-    code(byte(l, SPACE), w)
+    // The end of the line.
+    fn end(self) -> Line
+        requires { length self < 32 }
+        ensures { result ≡ self ++ 10 ∷ [] }
+    {
+        self.push(b'\n')
+    }
 }
 
 // The number of a refused card.
+#[tactic(auto, unfolding(model::specs::Lines::line, model::specs::Lines::line_x))]
 pub fn line_x(number: usize) -> Line
     requires { number < 10000 }
-    ensures { Says result (line_x number) }
+    ensures { result ≡ line_x number }
 {
-    byte(with_number(start(b'X'), number), NEWLINE)
+    Line::new(b'X').number(number).end()
 }
 
 // A request and its answer.
+#[tactic(auto, unfolding(model::specs::Lines::line))]
 pub fn line_r(request: usize, number: usize) -> Line
     requires { (request < 10000) × (number < 10000) }
-    ensures { Says result (line "R" (decimal request ∷ decimal number ∷ [])) }
+    ensures { result ≡ line "R" (decimal request ∷ decimal number ∷ []) }
 {
-    let numbered = with_number(start(b'R'), request);
-    byte(with_number(numbered, number), NEWLINE)
+    Line::new(b'R').number(request).number(number).end()
 }
 
 // A design and its kind.
+#[tactic(auto, unfolding(model::specs::Lines::line))]
 pub fn line_d(code: Code, kind: usize) -> Line
     requires { kind < 10000 }
-    ensures { Says result (line "D" (unpacked code ∷ decimal kind ∷ [])) }
+    ensures { result ≡ line "D" (unpacked code ∷ decimal kind ∷ []) }
 {
-    let named = with_code(start(b'D'), code);
-    byte(with_number(named, kind), NEWLINE)
+    Line::new(b'D').code(code).number(kind).end()
 }
 
 // A person and the rights in the cell.
+#[tactic(auto, unfolding(model::specs::Lines::line))]
 pub fn line_p(code: Code, rights: u32) -> Line
-    ensures { Says result (line "P" (unpacked code ∷ hexadecimal rights ∷ [])) }
+    ensures { result ≡ line "P" (unpacked code ∷ hexadecimal rights ∷ []) }
 {
-    let named = with_code(start(b'P'), code);
-    byte(with_rights(named, rights), NEWLINE)
+    Line::new(b'P').code(code).rights(rights).end()
 }
 
 // Requests, and those answered 0.
+#[tactic(auto, unfolding(model::specs::Lines::line))]
 pub fn line_e(requests: usize, done: usize) -> Line
     requires { (requests < 10000) × (done < 10000) }
-    ensures { Says result (line "E" (decimal requests ∷ decimal done ∷ [])) }
+    ensures { result ≡ line "E" (decimal requests ∷ decimal done ∷ []) }
 {
-    let numbered = with_number(start(b'E'), requests);
-    byte(with_number(numbered, done), NEWLINE)
+    Line::new(b'E').number(requests).number(done).end()
 }
 
 // A create command, its answer and the states listed.
+#[tactic(auto, unfolding(model::specs::Lines::line))]
 pub fn line_c(command: usize, number: usize, states: usize) -> Line
     requires { (command < 10000) × (number < 10000) × (states < 10000) }
-    ensures { Says result (line "C" (decimal command ∷ decimal number ∷ decimal states ∷ [])) }
+    ensures { result ≡ line "C" (decimal command ∷ decimal number ∷ decimal states ∷ []) }
 {
-    let numbered = with_number(start(b'C'), command);
-    let answered = with_number(numbered, number);
-    byte(with_number(answered, states), NEWLINE)
+    Line::new(b'C')
+        .number(command)
+        .number(number)
+        .number(states)
+        .end()
 }
 
 // A type, and all rights ever listed at it.
+#[tactic(auto, unfolding(model::specs::Lines::line))]
 pub fn line_t(t: usize, rights: u32) -> Line
     requires { t < 10000 }
-    ensures { Says result (line "T" (decimal t ∷ hexadecimal rights ∷ [])) }
+    ensures { result ≡ line "T" (decimal t ∷ hexadecimal rights ∷ []) }
 {
-    let numbered = with_number(start(b'T'), t);
-    byte(with_rights(numbered, rights), NEWLINE)
+    Line::new(b'T').number(t).rights(rights).end()
 }
 
 // The line, put into the text at a place; and where it ends.
-pub fn put(text: &mut [u8], at: usize, l: Line) -> usize
-    requires { Fits l 0 × (at + l.len ≤ length text.old) }
-    ensures { Put (text_of l) at text.old result text.new }
+#[tactic(auto, using(crate::proofs::Texts::put_copied))]
+pub fn put(text: &mut [u8], at: usize, line: Line) -> usize
+    requires { at + length line ≤ length text.old }
+    ensures { Put line at text.old result text.new }
 {
-    let bytes = l.bytes;
-    let n = l.len;
-    let mut i = 0;
-    while i < n {
-        text[at + i] = bytes[i];
-        i += 1;
-    }
-    at + n
+    let end = at + line.bytes.len();
+    text[at..end].copy_from_slice(line.bytes.as_slice());
+    end
 }

@@ -1,21 +1,9 @@
--- Duplicate steps by one set: whether a state has one, from the place of the first; and that for the set of a kind they are the definition's.
--- Assumes nothing.
-use Prim.Native.Nat.{ℕ, ◌≤◌, ◌<◌}
+-- A value that is given when a test passes is there exactly if the test passes. Assumes nothing.
+use Rattle.std.specs.Prelude.{Bool, ◌≡◌, Some, None, is_some}
 use mathlib.Core.Bool.{true, false}
-use mathlib.Core.Path.{◌≡◌}
-use native.Mathlib.Omega.{arith}
-use borrow.Author.Tests.{lt-ltb, le-ltb}
-use lib.ListN.{length}
-use Rattle.model.specs.Listing.{Row, first_duplicate, has_duplicate}
-use Rattle.schemes.specs.declared.Loaded.{Loaded}
-use Rattle.schemes.specs.Loads.{listed}
-use Rattle.schemes.proofs.Loads.{listed-length}
+use mathlib.Core.Path.{refl}
+use Rattle.model.specs.Words.{◌when◌else◌}
 
-module _ (set kind : ℕ) (l : Loaded) (whole : length l.commands ≡ 64) (row : Row) (k : ℕ) (first : k ≡ first_duplicate set (listed l) kind row) where
-  pub has_one : k < l.count → has_duplicate set (listed l) kind row ≡ true
-  unfolding has_duplicate
-  has_one h = lt-ltb (first_duplicate set (listed l) kind row) (length (listed l)) (omega (arith, listed-length l whole))
-
-  pub has_none : l.count ≤ k → has_duplicate set (listed l) kind row ≡ false
-  unfolding has_duplicate
-  has_none h = le-ltb (first_duplicate set (listed l) kind row) (length (listed l)) (omega (arith, listed-length l whole))
+pub given_when : {A : Type 0} (x : A) (test : Bool) → is_some (Some x when test else None) ≡ test
+given_when x true = refl
+given_when x false = refl

@@ -6,7 +6,7 @@ use mathlib.Core.List.{List, [], ◌∷◌, ◌++◌}
 use native.Mathlib.Numerals.{add-one}
 use native.Mathlib.Omega.{arith}
 use lib.ListN.{length, take, drop, length-drop, take-append-drop}
-use lib.Seq.{take-suc, take_all, length-take-le}
+use lib.Seq.{take-suc, length-take-le}
 use Rattle.model.specs.declared.Command.{Command}
 use Rattle.model.specs.Words.{groups}
 use Rattle.model.specs.Schemes.{no_command, command_in}
@@ -69,7 +69,3 @@ module _ (kind budget : ℕ) (row : Row) (commands : List Command) (n : ℕ) (ol
   pub expanding_cut : (k m : ℕ) (table : List ℕ) → Lists (after_first k) budget old m table → budget < m
       → Lists (expanded kind commands row (groups 8 n old)) budget old m table
   expanding_cut k m table has cut = lists_cut budget old has cut (first_grows k)
-
-  pub expanding_ends : (k m : ℕ) (table : List ℕ) → Lists (after_first k) budget old m table → length commands ≤ k
-      → Lists (expanded kind commands row (groups 8 n old)) budget old m table
-  expanding_ends k m table has end = rw (take_all k commands end) at has

@@ -1,12 +1,10 @@
 -- A search of the listing in a lent table: what it may assume, and what each part of it has listed.
 -- Assumes nothing.
-use Rattle.std.specs.Prelude.{ℕ, suc, ◌+◌, ◌*◌, ◌≤◌, ◌<◌, min, Bool, true, ◌&&◌, List, ◌≡◌, ltb, length, take}
-use Rattle.model.specs.declared.Command.{Command}
-use Rattle.model.specs.Words.{all, joined, written_over}
-use Rattle.model.specs.Sizes.{most_commands, most_states, row_words}
+use Rattle.std.specs.Prelude.{ℕ, suc, ◌+◌, ◌*◌, ◌≤◌, ◌<◌, min, List, ◌≡◌, length, take}
+use Rattle.model.specs.Words.{joined, written_over}
+use Rattle.model.specs.Sizes.{most_states, row_words}
 use Rattle.model.specs.Listing.{Row}
-use Rattle.schemes.specs.declared.Loaded.{Loaded}
-use Rattle.schemes.specs.Loads.{listed}
+use Rattle.listing.specs.declared.scope.Scope.{Scope}
 use Rattle.listing.specs.declared.search.Progress.{Progress}
 
 -- These rows are listed: the search counts them, up to one more than the budget, which says that it was cut; and as many of them as the
@@ -20,25 +18,14 @@ pub record Room (budget : ℕ) (table : List ℕ) : Type 0 where
   pub most : budget ≤ most_states
   pub wide : budget * row_words ≤ length table
 
--- what a step may assume: the search was not cut, and the command is one of a scheme's and in a row
-pub record MayTry (p : Progress) (budget : ℕ) (table : List ℕ) (c : Command) : Type 0 where
-  pub uncut : p.rows ≤ budget
-  pub one : p.command < most_commands
-  pub room : Room budget table
-  pub source : c.source < row_words
-  pub destination : c.destination < row_words
+-- what a step may assume: the search was not cut, and the command at hand is one of the commands
+pub record MayTry (s : Scope) (p : Progress) (table : List ℕ) : Type 0 where
+  pub uncut : p.rows ≤ s.budget
+  pub one : p.command < length s.commands.now
+  pub room : Room s.budget table
 
 -- what a step gives: these rows are listed, and the next command is at hand
 pub record Tried (rows : List Row) (budget : ℕ) (old : List ℕ) (p r : Progress) (table : List ℕ) : Type 0 where
   pub lists : Lists rows budget old r.rows table
   pub row : r.row ≡ p.row
   pub command : r.command ≡ p.command + 1
-
--- both types of the command have a cell in a row
-abbrev pub is_in_row : Command → Bool
-is_in_row c = ltb c.source row_words && ltb c.destination row_words
-
--- what a search may assume of the scheme: the commands are all kept, and each is in a row
-pub record Ready (l : Loaded) : Type 0 where
-  pub kept : l.count ≤ most_commands
-  pub placed : all is_in_row (listed l) ≡ true

@@ -4,5 +4,6 @@
 
 pub mod found;
 pub mod rows;
+pub mod scope;
 pub mod search;
 pub mod steps;

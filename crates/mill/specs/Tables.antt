@@ -1,17 +1,18 @@
 -- How a table of numbers stands for commands: a command a line, in the order of a card. Assumes nothing.
-use Rattle.std.specs.Prelude.{ℕ, ◌%◌, List, map, get_or}
+use Rattle.std.specs.Prelude.{ℕ}
 use Rattle.model.specs.declared.Command.{Command}
 
-abbrev pub command_of : List ℕ → Command
-command_of line = record {
-  form = get_or line 0 0 % 256;
-  source = get_or line 1 0 % 256;
-  destination = get_or line 2 0 % 256;
-  kind = get_or line 3 0 % 256;
-  x = get_or line 4 0;
-  y = get_or line 5 0;
-  z = get_or line 6 0;
-}
+-- form, source, destination, kind, X, Y, Z
+abbrev pub Line : Type 0
+Line = ℕ × ℕ × ℕ × ℕ × ℕ × ℕ × ℕ
 
-abbrev pub commands_of : List (List ℕ) → List Command
-commands_of table = map command_of table
+abbrev pub command_of : Line → Command
+command_of (form, source, destination, kind, x, y, z) = record {
+  form = form;
+  source = source;
+  destination = destination;
+  kind = kind;
+  x = x;
+  y = y;
+  z = z;
+}

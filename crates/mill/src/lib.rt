@@ -4,70 +4,65 @@
 
 ghost use Rattle.std.specs.Prelude.{◌≡◌};
 ghost use Rattle.model.specs.Mill.{commands_a, commands_b};
-ghost use Rattle.mill.specs.Tables.{command_of, commands_of};
+ghost use Rattle.mill.specs.Tables.{command_of};
 
 use model::Command;
 
 pub mod papers;
 
-// Scheme A: a command a line, its form, source and destination type, kind, X, Y and Z.
-const A: [[u32; 7]; 7] = [
-    [1, 0, 0, 0, 0x00, 0x00, 0x03],
-    [3, 0, 0, 0, 0x03, 0x02, 0x0C],
-    [2, 0, 1, 0, 0x04, 0x04, 0x10],
-    [2, 0, 2, 0, 0x08, 0x08, 0x10],
-    [2, 1, 0, 0, 0x10, 0x10, 0x20],
-    [2, 2, 0, 0, 0x10, 0x10, 0x40],
-    [3, 0, 0, 0, 0x60, 0x00, 0x80],
+// A line of a table: a command's form, source and destination type, kind, X, Y and Z.
+type Line = (u8, u8, u8, u8, u32, u32, u32);
+
+// Scheme A.
+const A: [Line; 7] = [
+    (1, 0, 0, 0, 0x00, 0x00, 0x03),
+    (3, 0, 0, 0, 0x03, 0x02, 0x0C),
+    (2, 0, 1, 0, 0x04, 0x04, 0x10),
+    (2, 0, 2, 0, 0x08, 0x08, 0x10),
+    (2, 1, 0, 0, 0x10, 0x10, 0x20),
+    (2, 2, 0, 0, 0x10, 0x10, 0x40),
+    (3, 0, 0, 0, 0x60, 0x00, 0x80),
 ];
 
 // Scheme B.
-const B: [[u32; 7]; 7] = [
-    [1, 0, 0, 0, 0x00, 0x00, 0x03],
-    [3, 0, 0, 0, 0x03, 0x02, 0x04],
-    [2, 0, 1, 0, 0x04, 0x00, 0x10],
-    [2, 0, 2, 0, 0x04, 0x00, 0x10],
-    [2, 1, 0, 0, 0x10, 0x10, 0x20],
-    [2, 2, 0, 0, 0x10, 0x10, 0x40],
-    [3, 0, 0, 0, 0x60, 0x00, 0x80],
+const B: [Line; 7] = [
+    (1, 0, 0, 0, 0x00, 0x00, 0x03),
+    (3, 0, 0, 0, 0x03, 0x02, 0x04),
+    (2, 0, 1, 0, 0x04, 0x00, 0x10),
+    (2, 0, 2, 0, 0x04, 0x00, 0x10),
+    (2, 1, 0, 0, 0x10, 0x10, 0x20),
+    (2, 2, 0, 0, 0x10, 0x10, 0x40),
+    (3, 0, 0, 0, 0x60, 0x00, 0x80),
 ];
 
 // The command that a line of a table stands for.
-fn command_of(line: [u32; 7]) -> Command
+fn command_of(line: Line) -> Command
     ensures { result ≡ command_of line }
 {
+    let (form, source, destination, kind, x, y, z) = line;
     Command {
-        form: (line[0] % 256) as u8,
-        source: (line[1] % 256) as u8,
-        destination: (line[2] % 256) as u8,
-        kind: (line[3] % 256) as u8,
-        x: line[4],
-        y: line[5],
-        z: line[6],
+        form,
+        source,
+        destination,
+        kind,
+        x,
+        y,
+        z,
     }
-}
-
-// The commands of a table, in order.
-fn commands_of(table: [[u32; 7]; 7]) -> [Command; 7]
-    ensures { result ≡ commands_of table }
-{
-    let mut commands = [command_of([0u32; 7]); 7];
-    for i in 0..7 {
-        commands[i] = command_of(table[i]);
-    }
-    commands
 }
 
 // The commands of scheme A.
+#[tactic(auto, unfolding(model::specs::Mill::commands_a))]
 pub fn commands_a() -> [Command; 7]
     ensures { result ≡ commands_a }
 {
-    commands_of(A)
+    A.map(command_of)
 }
 
 // The commands of scheme B.
+#[tactic(auto, unfolding(model::specs::Mill::commands_b, model::specs::Mill::commands_a))]
 pub fn commands_b() -> [Command; 7]
     ensures { result ≡ commands_b }
 {
-    commands_of(B)
+    B.map(command_of)
 }

@@ -1,5 +1,7 @@
 pub mod Words
 pub mod Sizes
+pub mod Refusals
+pub mod Formed
 pub mod Rights
 pub mod Codes
 pub mod Schemes
@@ -12,6 +14,7 @@ pub mod Questions
 pub mod Kinds
 pub mod Listing
 pub mod Verdicts
+pub mod Answers
 pub mod Outcomes
 pub mod Lines
 pub mod Mill

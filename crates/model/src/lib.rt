@@ -2,6 +2,10 @@
 // No code is here but the records. Every other crate is proved against these definitions.
 #![tactic(auto)]
 
+pub mod answers;
+pub mod form;
+pub mod refusal;
+
 // One command of a scheme, sixteen bytes as on its card.
 #[repr(C)]
 #[derive(Clone, Copy)]
@@ -17,7 +21,7 @@ pub struct Command {
 
 // The code of a person or a design: twelve bytes, padded with zeros, as three big-endian words.
 #[repr(C)]
-#[derive(Clone, Copy)]
+#[derive(Clone, Copy, PartialEq, Eq)]
 pub struct Code {
     pub a: u32,
     pub b: u32,

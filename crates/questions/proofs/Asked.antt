@@ -8,96 +8,69 @@ use native.Mathlib.Nat.{zero-add}
 use native.Mathlib.Numerals.{add-one}
 use native.Mathlib.Omega.{arith}
 use lib.Dec.{eqb}
-use lib.ListN.{length, get_or, set, length-set, length-append}
+use lib.ListN.{length, set, length-append}
 use lib.Seq.{append_snoc}
-use borrow.Author.Tests.{not-true, not-false, le-ltb, lt-ltb, le-leb, lt-leb, ne_eqb}
+use borrow.Author.Tests.{le-ltb, lt-ltb, le-leb, lt-leb, eq-eqb, ne_eqb}
 use Rattle.model.specs.Words.{those, joined, numbers_from, written_over}
 use Rattle.model.specs.Rights.{has}
-use Rattle.model.specs.Codes.{spelled}
 use Rattle.model.specs.Forms.{cell_at}
-use Rattle.model.specs.Stores.{no_design, place_of, design_at, named_number}
+use Rattle.model.specs.Stores.{named_number}
 use Rattle.model.specs.Questions.{may_use_number, may_use, shown, access_words}
-use Rattle.model.specs.Outcomes.{Handed, people_in, designs_in, has_rooms, handed_number, may_use_call_number, may_use_answer, MayUseOutcome, access_list_number, access_list_answer, AccessListOutcome, cells_in}
-use Rattle.laws.proofs.Tests.{accepted, by_test}
+use Rattle.model.specs.Outcomes.{Handed, people_in, designs_in, handed_number, may_use_call_number, may_use_answer, MayUseOutcome, access_list_number, access_list_answer, AccessListOutcome, cells_in}
+use Rattle.laws.proofs.Tests.{by_test}
 use Rattle.laws.proofs.Lists.{those-append, those-length, length-numbers, numbers_last, joined-append, written_snoc}
 use Rattle.laws.proofs.Kept.{roster_length}
-use Rattle.handed.specs.Handing.{Accepted}
+use Rattle.handed.specs.Handing.{rooms_number}
 use Rattle.questions.specs.Shown.{counted_with, paired_with, Shows}
-use Rattle.handed.proofs.Numbers.{Sized, sized}
+use Rattle.handed.proofs.Numbers.{no_room, all_rooms, checked}
+use Rattle.laws.proofs.Refusals.{refusal_not_zero, refused_here}
+use Rattle.model.specs.declared.refusal.Refusal.{Refusal}
+use Rattle.model.specs.Refusals.{number_of_refusal}
+use Rattle.model.specs.Answers.{may_given, list_given}
+use Rattle.std.specs.Prelude.{Result, Ok, Err}
 
 -- ---- the question
 
-module _ (h : Handed) (person right : ℕ) (code : List ℕ) (rooms : Bool) (er : rooms ≡ has_rooms h) where
-  pub no_room : not rooms ≡ true → 20 ≡ may_use_call_number h person right code
+module _ (h : Handed) (person right : ℕ) (code : List ℕ) where
+  pub may_no_room : (r : Refusal) → number_of_refusal r ≡ rooms_number h.roster h.store → number_of_refusal r ≡ may_use_call_number h person right code
   unfolding may_use_call_number
-  no_room e = rw (← er, not-true rooms e)
+  may_no_room r e = rw (no_room h r e).0 (sym (no_room h r e).1)
 
-  module _ (e : not rooms ≡ false) (n : ℕ) (en : n ≡ handed_number h) where
-    pub not_handed : (n ≡ 0 → ⊥) → n ≡ may_use_call_number h person right code
+  module _ (room : 0 ≡ rooms_number h.roster h.store) where
+    pub may_not_handed : (r : Refusal) → number_of_refusal r ≡ handed_number h → number_of_refusal r ≡ may_use_call_number h person right code
     unfolding may_use_call_number
-    not_handed some = rw (← er, not-false rooms e, ← en, ne_eqb n 0 some)
+    may_not_handed r e = rw (all_rooms h room) (refused_here _ _ r e)
 
-    module _ (z : n ≡ 0) where
-      pub was_accepted : Accepted h
-      was_accepted = record { rooms = sym er ∙ not-false rooms e; number = sym en ∙ z }
-
+    module _ (z : handed_number h ≡ 0) where
       on_words : may_use_call_number h person right code ≡ may_use_number h.scheme (people_in h) (designs_in h) person right code
       unfolding may_use_call_number
-      on_words = rw (← er, not-false rooms e, ← en, z)
+      on_words = rw (all_rooms h room, z) refl
 
-      pub no_right : h.scheme.rights ≤ right → 15 ≡ may_use_call_number h person right code
+      pub may_no_right : h.scheme.rights ≤ right → 15 ≡ may_use_call_number h person right code
       unfolding may_use_number
-      no_right l = rw (on_words, le-ltb right h.scheme.rights l)
+      may_no_right l = rw (on_words, le-ltb right h.scheme.rights l)
 
-      pub no_person : right < h.scheme.rights → h.count ≤ person → 7 ≡ may_use_call_number h person right code
+      pub may_no_person : right < h.scheme.rights → h.count ≤ person → 7 ≡ may_use_call_number h person right code
       unfolding may_use_number
-      no_person r l = rw (on_words, lt-ltb right h.scheme.rights r, le-ltb person (length (people_in h)) (omega (arith, roster_length h.count h.roster)))
+      may_no_person r l = rw (on_words, lt-ltb right h.scheme.rights r, le-ltb person (length (people_in h)) (omega (arith, roster_length h.count h.roster)))
 
-      pub named : right < h.scheme.rights → person < h.count → (k : ℕ) → k ≡ named_number (designs_in h) code → k ≡ may_use_call_number h person right code
+      pub may_named : right < h.scheme.rights → person < h.count → (k : ℕ) → k ≡ named_number (designs_in h) code → k ≡ may_use_call_number h person right code
       unfolding may_use_number
-      named r l k ek =
+      may_named r l k ek =
           rw (on_words, lt-ltb right h.scheme.rights r, lt-ltb person (length (people_in h)) (omega (arith, roster_length h.count h.roster)), ← ek)
 
--- what a 0 tells
-pub record Answerable (h : Handed) (person right : ℕ) (code : List ℕ) : Type 0 where
-  pub handed : Accepted h
-  pub size : Sized h
-  pub right_there : right < h.scheme.rights
-  pub person_there : person < h.count
-  pub spelt : spelled code ≡ true
-  pub place_there : place_of code (designs_in h) < length (designs_in h)
+  pub right_below : handed_number h ≡ 0 → right < h.scheme.rights → right < 32
+  right_below z l = omega (arith, (checked h z).rights)
 
-pub answerable : (h : Handed) (person right : ℕ) (code : List ℕ) → may_use_call_number h person right code ≡ 0 → Answerable h person right code
-unfolding may_use_call_number may_use_number named_number
-answerable h person right code zero_number =
-    let facts = simp accepted at zero_number in
-    let a : Accepted h = record { rooms = facts.0; number = facts.1.0 } in
-    record {
-      handed = a;
-      size = sized h a;
-      right_there = facts.1.1.0;
-      person_there = omega (arith, facts.1.1.1.0, roster_length h.count h.roster);
-      spelt = facts.1.1.1.1.0.0;
-      place_there = facts.1.1.1.1.1.0;
-    }
-
-module _ (h : Handed) (person right : ℕ) (code : List ℕ) (n : ℕ) (en : n ≡ may_use_call_number h person right code) where
-  pub refused_answer : (n ≡ 0 → ⊥) → MayUseOutcome h person right code (record { number = n; may = 0 })
+  pub may_refused : (x : Result Bool Refusal) (r : Refusal) → x ≡ Err r → number_of_refusal r ≡ may_use_call_number h person right code
+      → MayUseOutcome h person right code (may_given x)
   unfolding may_use_answer
-  refused_answer some = record { answer_is = rw (← en, ne_eqb n 0 some) }
+  may_refused x r is e = rw is (record { answer_is = rw (← e, ne_eqb (number_of_refusal r) 0 (refusal_not_zero r)) })
 
-  module _ (z : n ≡ 0) (place : ℕ) (ep : place ≡ place_of code (designs_in h)) (cell : ℕ)
-      (ec : cell ≡ cell_at (get_or (designs_in h) place no_design).cells person) (b : Bool) (eb : b ≡ has cell right) where
-    is_it : has (cell_at (design_at code (designs_in h)).cells person) right ≡ b
-    is_it = rw (← ep, ← ec, ← eb)
-
-    pub answered_yes : b ≡ true → MayUseOutcome h person right code (record { number = 0; may = 1 })
-    unfolding may_use_answer may_use
-    answered_yes t = record { answer_is = rw (← en, z, is_it, t) }
-
-    pub answered_not : b ≡ false → MayUseOutcome h person right code (record { number = 0; may = 0 })
-    unfolding may_use_answer may_use
-    answered_not t = record { answer_is = rw (← en, z, is_it, t) }
+  pub may_answered : 0 ≡ may_use_call_number h person right code → (b : Bool) → b ≡ has (cell_at (cells_in h code) person) right
+      → MayUseOutcome h person right code (may_given (Ok b))
+  unfolding may_use_answer may_use
+  may_answered z b eb = record { answer_is = rw (← z, ← eb) refl }
 
 -- ---- the access list
 
@@ -161,84 +134,47 @@ module _ (cells old : List ℕ) (i : ℕ) where
             (rw (← place) (sym (written_pair (access_words i cells) old i (cell_at cells i) (omega (arith, shown_few, s.counted)))));
       })
 
+-- a turn of the loop, with an empty cell and with another
+module _ (cells old list : List ℕ) (i n : ℕ) (l : i < 32) (room : 64 ≤ length old) (s : Shows i cells old n list) where
+  pub shows_empty : cell_at cells i ≡ 0 → Shows (i + 1) cells old n list
+  shows_empty e = rw add-one (rw (eq-eqb (cell_at cells i) 0 e) at (shows_next cells old i n list l room s))
+
+  pub shows_cell : (cell_at cells i ≡ 0 → ⊥) → Shows (i + 1) cells old (n + 1) (set (set list (n * 2) i) (n * 2 + 1) (cell_at cells i))
+  shows_cell some = rw add-one (rw (ne_eqb (cell_at cells i) 0 some) at (shows_next cells old i n list l room s))
+
 pub shows_none : (cells old : List ℕ) → Shows 0 cells old 0 old
 unfolding shown access_words written_over
 shows_none cells old = record { counted = refl; written = refl }
 
--- a turn of the loop, with the answers of its calls
-pub shows_turn : (cells old list : List ℕ) (i n cell m : ℕ) (after : List ℕ) → i < 32 → 64 ≤ length old → cell ≡ cell_at cells i → m ≡ counted_with cell n
-    → after ≡ paired_with i cell n list → n ≤ i → Shows i cells old n list
-    → (m ≤ i + 1) × (length after ≡ length list) × Shows (i + 1) cells old m after
-shows_turn cells old list i n cell m after l room ec em ea few s =
-    let next = shows_next cells old i n list l room s in
-    let count : m ≡ counted_with (cell_at cells i) n = em ∙ ap (λ (k : ℕ). counted_with k n) ec in
-    let pairs : after ≡ paired_with i (cell_at cells i) n list = ea ∙ ap (λ (k : ℕ). paired_with i k n list) ec in (
-      rw count (by_test (eqb (cell_at cells i) 0) (λ e. rw e (omega arith)) (λ e. rw e (omega arith))),
-      rw pairs
-          (by_test (eqb (cell_at cells i) 0) (λ e. rw e)
-          (λ e. rw e (length-set (set list (n * 2) i) (n * 2 + 1) (cell_at cells i) ∙ length-set list (n * 2) i))),
-      rw (add-one, count, pairs) next,
-    )
+-- ---- the number of an access list at each end of its checks
 
--- ---- the number of an access list at each exit
-
-module _ (h : Handed) (code : List ℕ) (room : ℕ) (rooms : Bool) (er : rooms ≡ has_rooms h) where
-  -- the number, whatever the list of that length holds
-  abbrev pub IsNumber : ℕ → Type 0
-  IsNumber n = (list : List ℕ) → length list ≡ room → n ≡ access_list_number h code list
-
-  pub list_no_room : not rooms ≡ true → IsNumber 20
+module _ (h : Handed) (code list : List ℕ) where
+  pub list_no_room : (r : Refusal) → number_of_refusal r ≡ rooms_number h.roster h.store → number_of_refusal r ≡ access_list_number h code list
   unfolding access_list_number
-  list_no_room e list l = rw (← er, not-true rooms e)
+  list_no_room r e = rw (no_room h r e).0 (sym (no_room h r e).1)
 
-  module _ (e : not rooms ≡ false) where
-    pub list_short : room < 64 → IsNumber 20
+  module _ (room : 0 ≡ rooms_number h.roster h.store) where
+    pub list_short : length list < 64 → 20 ≡ access_list_number h code list
     unfolding access_list_number
-    list_short s list l = rw (← er, not-false rooms e, lt-leb 64 (length list) (omega arith))
+    list_short s = rw (all_rooms h room, lt-leb 64 (length list) s)
 
-    module _ (long : 64 ≤ room) (n : ℕ) (en : n ≡ handed_number h) where
-      pub list_not_handed : (n ≡ 0 → ⊥) → IsNumber n
+    module _ (long : 64 ≤ length list) where
+      pub list_not_handed : (r : Refusal) → number_of_refusal r ≡ handed_number h → number_of_refusal r ≡ access_list_number h code list
       unfolding access_list_number
-      list_not_handed some list l = rw (← er, not-false rooms e, le-leb 64 (length list) (omega arith), ← en, ne_eqb n 0 some)
+      list_not_handed r e = rw (all_rooms h room, le-leb 64 (length list) long) (refused_here _ _ r e)
 
-      module _ (z : n ≡ 0) where
-        pub list_accepted : Accepted h
-        list_accepted = record { rooms = sym er ∙ not-false rooms e; number = sym en ∙ z }
+      pub list_named : handed_number h ≡ 0 → (k : ℕ) → k ≡ named_number (designs_in h) code → k ≡ access_list_number h code list
+      unfolding access_list_number
+      list_named z k ek = rw (all_rooms h room, le-leb 64 (length list) long, z) ek
 
-        pub list_named : (k : ℕ) → k ≡ named_number (designs_in h) code → IsNumber k
-        unfolding access_list_number
-        list_named k ek list l = rw (← er, not-false rooms e, le-leb 64 (length list) (omega arith), ← en, z, ← ek)
-
--- what a 0 tells
-pub record Listable (h : Handed) (code list : List ℕ) : Type 0 where
-  pub size : Sized h
-  pub room : 64 ≤ length list
-  pub spelt : spelled code ≡ true
-  pub place_there : place_of code (designs_in h) < length (designs_in h)
-
-pub listable : (h : Handed) (code list : List ℕ) → access_list_number h code list ≡ 0 → Listable h code list
-unfolding access_list_number named_number
-listable h code list zero_number =
-    let facts = simp accepted at zero_number in
-    record {
-      size = sized h (record { rooms = facts.0.0; number = facts.1.0 });
-      room = facts.0.1;
-      spelt = facts.1.1.0.0;
-      place_there = facts.1.1.1.0;
-    }
-
-module _ (h : Handed) (code list : List ℕ) (n : ℕ) (en : n ≡ access_list_number h code list) where
-  pub list_refused : (n ≡ 0 → ⊥) → AccessListOutcome h code list (record { number = n; people = 0 }) list
+  pub list_refused : (x : Result ℕ Refusal) (r : Refusal) → x ≡ Err r → number_of_refusal r ≡ access_list_number h code list
+      → AccessListOutcome h code list (list_given x) list
   unfolding access_list_answer
-  list_refused some = record { answer_is = rw (← en, ne_eqb n 0 some); list_is = rw (← en, ne_eqb n 0 some) }
+  list_refused x r is e =
+      let some = ne_eqb (number_of_refusal r) 0 (refusal_not_zero r) in
+      rw is (record { answer_is = rw (← e, some); list_is = rw (← e, some) })
 
-  pub list_answered : n ≡ 0 → (place : ℕ) → place ≡ place_of code (designs_in h) → (count : ℕ) (exit : List ℕ)
-      → Shows h.count (get_or (designs_in h) place no_design).cells list count exit
-      → AccessListOutcome h code list (record { number = 0; people = count }) exit
+  pub list_answered : 0 ≡ access_list_number h code list → (count : ℕ) (exit : List ℕ) → Shows h.count (cells_in h code) list count exit
+      → AccessListOutcome h code list (list_given (Ok count)) exit
   unfolding access_list_answer
-  list_answered z place ep count exit s =
-      let cells : (get_or (designs_in h) place no_design).cells ≡ cells_in h code = ap (λ (i : ℕ). (get_or (designs_in h) i no_design).cells) ep in
-      record {
-        answer_is = rw (← en, z, ← cells, ← s.counted);
-        list_is = rw (← en, z, ← cells) s.written;
-      }
+  list_answered z count exit s = record { answer_is = rw (← z, ← s.counted); list_is = rw (← z) s.written }

@@ -1,9 +1,7 @@
--- What the writer of an access list may assume, and what it gives.
+-- What the writer of an access list gives.
 -- Assumes nothing.
-use Rattle.std.specs.Prelude.{ℕ, ◌+◌, ◌*◌, ◌≤◌, ◌<◌, List, ◌≡◌, eqb, length, set}
+use Rattle.std.specs.Prelude.{ℕ, ◌+◌, ◌*◌, List, ◌≡◌, eqb, length, set}
 use Rattle.model.specs.Words.{◌when◌else◌, written_over}
-use Rattle.model.specs.Sizes.{most_people, store_room, access_room}
-use Rattle.model.specs.Stores.{store_of}
 use Rattle.model.specs.Questions.{shown, access_words}
 
 -- how many are shown with one person more, and the list with the person's pair: an empty cell is not shown
@@ -16,13 +14,6 @@ abbrev pub paired_with : ℕ → ℕ → ℕ → List ℕ → List ℕ
 paired_with p cell n list =
     list when eqb cell 0 else
     set (set list (n * 2) p) (n * 2 + 1) cell
-
-pub record CanShow (store : List ℕ) (place people : ℕ) (list : List ℕ) : Type 0 where
-  pub room : store_room ≤ length store
-  pub few : length (store_of store) ≤ 64
-  pub there : place < length (store_of store)
-  pub most : people ≤ most_people
-  pub list_room : access_room ≤ length list
 
 -- the people shown are counted, and their pairs written
 pub record Shows (people : ℕ) (cells old : List ℕ) (count : ℕ) (list : List ℕ) : Type 0 where

@@ -2,148 +2,99 @@
 // Questions and Outcomes at what was handed over. Inner functions: the public calls load the scheme and go on here.
 #![tactic(auto)]
 
-ghost use Rattle.std.specs.Prelude.{◌≡◌, List, ℕ, ◌≤◌, ◌<◌, length, get_or};
-ghost use Rattle.model.specs.Stores.{no_design, store_of};
-ghost use Rattle.model.specs.Outcomes.{may_use_call_number, MayUseOutcome, access_list_number, AccessListOutcome};
-ghost use Rattle.handed.specs.Handing.{counted_by, handed_by};
-ghost use Rattle.questions.specs.Shown.{counted_with, paired_with, CanShow, Shows};
+ghost use Rattle.std.specs.Prelude.{◌≡◌, ◌≤◌, ◌<◌, length, IfOk};
+ghost use Rattle.model.specs.Refusals.{number_given};
+ghost use Rattle.model.specs.Answers.{may_given, list_given};
+ghost use Rattle.model.specs.Forms.{cell_at};
+ghost use Rattle.model.specs.Outcomes.{may_use_call_number, MayUseOutcome, access_list_number, AccessListOutcome, cells_in};
+ghost use Rattle.handed.specs.Handing.{handed_by};
+ghost use Rattle.questions.specs.Shown.{Shows};
 
-use handed::{counted, handed_number, has_rooms, named_number, place_named};
-use model::{AccessList, MayUse};
+use handed::{accept, rooms};
+use model::refusal::Refusal;
 use schemes::Loaded;
-use stores::cell_at;
 
-// The number of the question: what is handed over, then 15, 7, 4, 12.
-fn may_use_number(
-    l: Loaded,
-    people: usize,
+// The cell that the question is about: what is handed over, then 15, 7, 4, 12.
+#[tactic(auto, using(crate::proofs::Asked::may_no_room, crate::proofs::Asked::may_not_handed, crate::proofs::Asked::may_no_right, crate::proofs::Asked::may_no_person, crate::proofs::Asked::may_named, crate::proofs::Asked::right_below))]
+fn cell_asked(
+    l: &Loaded,
     roster: &[u32],
+    people: usize,
     store: &[u32],
     person: usize,
     right: usize,
     code: &[u8],
-) -> u8
-    ensures { result ≡ may_use_call_number (handed_by l people roster.now store.now) person right code.now }
+) -> Result<u32, Refusal>
+    ensures number { number_given result ≡ may_use_call_number (handed_by l.now people roster.now store.now) person right code.now }
+    ensures cell { IfOk result (λ cell. (cell ≡ cell_at (cells_in (handed_by l.now people roster.now store.now) code.now) person) × (right < 32)) }
 {
-    if !has_rooms(roster, store) {
-        return 20;
-    }
-    let number = handed_number(l, people, roster, store);
-    if number != 0 {
-        return number;
-    }
+    rooms(roster, store)?;
+    let handed = accept(l, roster, people, store)?;
     if l.rights <= right {
-        return 15;
+        return Err(Refusal::OutOfRange);
     }
     if people <= person {
-        return 7;
+        return Err(Refusal::NoPerson);
     }
-    named_number(store, code)
+    let design = handed.store.named(code)?;
+    Ok(design.cell(person))
 }
 
 // May this person use this right on the design with this code?
+#[tactic(auto, using(crate::proofs::Asked::may_refused, crate::proofs::Asked::may_answered))]
 pub fn may_use(
-    l: Loaded,
-    types: usize,
-    kinds: usize,
-    rights: usize,
+    l: &Loaded,
     roster: &[u32],
     people: usize,
     store: &[u32],
     person: usize,
     right: usize,
     code: &[u8],
-) -> MayUse
-    ensures { MayUseOutcome (handed_by (counted_by l types kinds rights) people roster.now store.now) person right code.now result }
+) -> Result<bool, Refusal>
+    ensures { MayUseOutcome (handed_by l.now people roster.now store.now) person right code.now (may_given result) }
 {
-    let s = counted(l, types, kinds, rights);
-    let number = may_use_number(s, people, roster, store, person, right, code);
-    if number != 0 {
-        return MayUse { number, may: 0 };
-    }
-    let place = place_named(store, code);
-    if rights::has(cell_at(store, place, person), right) {
-        return MayUse { number: 0, may: 1 };
-    }
-    MayUse { number: 0, may: 0 }
+    let cell = cell_asked(l, roster, people, store, person, right, code)?;
+    Ok(rights::has(cell, right))
 }
 
 // The words that a list of 32 pairs takes.
 const ACCESS_ROOM: usize = 64;
 
-// The number of an access list: the rooms, the list's among them, what is handed over, then 4, 12.
-fn access_list_number(
-    l: Loaded,
-    people: usize,
-    roster: &[u32],
-    store: &[u32],
-    code: &[u8],
-    room: usize,
-) -> u8
-    ensures { (list : List ℕ) → length list ≡ room → result ≡ access_list_number (handed_by l people roster.now store.now) code.now list }
-{
-    if !has_rooms(roster, store) {
-        return 20;
-    }
-    if room < ACCESS_ROOM {
-        return 20;
-    }
-    let number = handed_number(l, people, roster, store);
-    if number != 0 {
-        return number;
-    }
-    named_number(store, code)
-}
-
-// A person's pair is written at the end of those shown, unless the cell is empty. Gives how many are shown.
-fn show_one(p: usize, cell: u32, n: usize, list: &mut [u32]) -> usize
-    requires { (p < 32) × (n < 32) × (64 ≤ length list.old) }
-    ensures { (result ≡ counted_with cell n) × (list.new ≡ paired_with p cell n list.old) }
-{
-    if cell == 0 {
-        return n;
-    }
-    let at = n * 2;
-    list[at] = p as u32;
-    list[at + 1] = cell;
-    n + 1
-}
-
 // The people with a cell that isn't empty, in roster order, are written into the list, a pair each. Gives how many they are.
-fn show(store: &[u32], place: usize, people: usize, list: &mut [u32]) -> usize
-    requires { CanShow store.now place people list.old }
-    ensures { Shows people (get_or (store_of store.now) place no_design).cells list.old result list.new }
+fn show(cells: &[u32], people: usize, list: &mut [u32]) -> usize
+    requires { (people ≤ 32) × (people ≤ length cells.now) × (64 ≤ length list.old) }
+    ensures { Shows people cells.now list.old result list.new }
 {
-    let mut n = 0;
-    for p in 0..people {
-        n = show_one(p, cell_at(store, place, p), n, list);
+    let mut shown = 0;
+    for person in 0..people {
+        let cell = cells[person];
+        if cell != 0 {
+            let at = shown * 2;
+            list[at] = person as u32;
+            list[at + 1] = cell;
+            shown += 1;
+        }
     }
-    n
+    shown
 }
 
 // The access list of the design with this code.
+#[tactic(auto, using(crate::proofs::Asked::list_no_room, crate::proofs::Asked::list_short, crate::proofs::Asked::list_not_handed, crate::proofs::Asked::list_named, crate::proofs::Asked::list_refused, crate::proofs::Asked::list_answered))]
 pub fn access_list(
-    l: Loaded,
-    types: usize,
-    kinds: usize,
-    rights: usize,
+    l: &Loaded,
     roster: &[u32],
     people: usize,
     store: &[u32],
     code: &[u8],
     list: &mut [u32],
-) -> AccessList
-    ensures { AccessListOutcome (handed_by (counted_by l types kinds rights) people roster.now store.now) code.now list.old result list.new }
+) -> Result<usize, Refusal>
+    ensures { AccessListOutcome (handed_by l.now people roster.now store.now) code.now list.old (list_given result) list.new }
 {
-    let s = counted(l, types, kinds, rights);
-    let number = access_list_number(s, people, roster, store, code, list.len());
-    if number != 0 {
-        return AccessList { number, people: 0 };
+    rooms(roster, store)?;
+    if list.len() < ACCESS_ROOM {
+        return Err(Refusal::NoRoom);
     }
-    let place = place_named(store, code);
-    let shown = show(store, place, people, list);
-    AccessList {
-        number: 0,
-        people: shown,
-    }
+    let handed = accept(l, roster, people, store)?;
+    let design = handed.store.named(code)?;
+    Ok(show(design.cells(), people, list))
 }

@@ -2,76 +2,44 @@
 // go through them, and none is offered outside.
 #![tactic(auto)]
 
-ghost use Rattle.std.specs.Prelude.{◌≡◌, true, ◌≤◌, length};
-ghost use Rattle.model.specs.Rosters.{roster_number};
-ghost use Rattle.model.specs.Cards.{is_roster_card, people_of};
+ghost use Rattle.std.specs.Prelude.{◌≡◌, length, IfOk};
+ghost use Rattle.model.specs.Refusals.{number_given};
+ghost use Rattle.model.specs.Answers.{roster_given};
+ghost use Rattle.model.specs.Cards.{people_of, roster_card_number};
 ghost use Rattle.model.specs.Outcomes.{ReadRosterOutcome};
 ghost use Rattle.schemes.specs.Loads.{scheme_in};
-ghost use Rattle.handed.specs.Handing.{counted_by};
 
-use cards::HEADER;
-use cards::roster::{is_roster_card, read_people};
-use handed::{ROSTER_ROOM, counted};
-use model::RosterRead;
-use rosters::{MOST_PEOPLE, roster_number};
-use schemes::{Loaded, is_valid};
+use cards::roster::{read_people, roster_body};
+use model::refusal::Refusal;
+use rosters::{MOST_PEOPLE, ROSTER_ROOM, check_roster};
+use schemes::Loaded;
 
-// Nothing was written, and why.
-fn refused(number: u8) -> RosterRead
-    ensures { result ≡ record { number = number; people = 0 } }
+// The count of a card's people, if nothing of it is refused: they are read into words of this function's own, and checked there.
+#[tactic(auto, using(crate::proofs::Exits::no_card, crate::proofs::Exits::scheme_refused, crate::proofs::Exits::count_refused, crate::proofs::Exits::by_people, crate::proofs::Exits::people_count, crate::proofs::Exits::words_number))]
+pub fn checked_people(l: &Loaded, card: &[u8]) -> Result<usize, Refusal>
+    ensures number { number_given result ≡ roster_card_number (scheme_in l.now) card.now }
+    ensures people { IfOk result (λ n. n ≡ length (people_of card.now)) }
 {
-    RosterRead { number, people: 0 }
-}
-
-// The number of the people of a card, who are 1 to 32: they are read into words of this function's own, and checked there.
-fn people_number(types: usize, people: usize, card: &[u8]) -> u8
-    requires { (is_roster_card card.now ≡ true) × (people ≡ length (people_of card.now)) × (1 ≤ people) × (people ≤ 32) }
-    ensures { result ≡ roster_number types (people_of card.now) }
-{
+    let (people, _) = roster_body(card).ok_or(Refusal::BadCard)?;
+    l.check()?;
+    if !(1..=MOST_PEOPLE).contains(&people) {
+        return Err(Refusal::BadRoster);
+    }
     let mut words = [0u32; ROSTER_ROOM];
     read_people(card, &mut words);
-    roster_number(types, people, &words)
+    let roster = check_roster(&words, people, l.types)?;
+    Ok(roster.people)
 }
 
-// The people of a card, written to the lent words if nothing is refused.
-pub fn roster_on(l: Loaded, card: &[u8], roster: &mut [u32]) -> RosterRead
-    ensures { ReadRosterOutcome (scheme_in l) card.now roster.old result roster.new }
+// The people of a card, written to the lent words if nothing is refused, and how many they are.
+#[tactic(auto, using(crate::proofs::Exits::accepted_card))]
+pub fn read_roster(l: &Loaded, card: &[u8], roster: &mut [u32]) -> Result<usize, Refusal>
+    ensures { ReadRosterOutcome (scheme_in l.now) card.now roster.old (roster_given result) roster.new }
 {
     if roster.len() < ROSTER_ROOM {
-        return refused(20);
+        return Err(Refusal::NoRoom);
     }
-    if !is_roster_card(card) {
-        return refused(1);
-    }
-    if !is_valid(l) {
-        return refused(2);
-    }
-    let people = card[HEADER] as usize;
-    if people < 1 {
-        return refused(3);
-    }
-    if MOST_PEOPLE < people {
-        return refused(3);
-    }
-    let number = people_number(l.types, people, card);
-    if number != 0 {
-        return refused(number);
-    }
+    let people = checked_people(l, card)?;
     read_people(card, roster);
-    RosterRead { number: 0, people }
-}
-
-// The same, with the scheme's three counts beside its commands.
-pub fn read_roster(
-    l: Loaded,
-    types: usize,
-    kinds: usize,
-    rights: usize,
-    card: &[u8],
-    roster: &mut [u32],
-) -> RosterRead
-    ensures { ReadRosterOutcome (scheme_in (counted_by l types kinds rights)) card.now roster.old result roster.new }
-{
-    let scheme = counted(l, types, kinds, rights);
-    roster_on(scheme, card, roster)
+    Ok(people)
 }

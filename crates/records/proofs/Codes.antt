@@ -1,22 +1,15 @@
 -- The codes of records by their places: record i starts at word i * size, and its code at the word after.
 -- Assumes nothing.
-use Prim.Native.Nat.{ℕ, ◌+◌, ◌*◌, ◌^◌, ◌≤◌, ◌<◌}
+use Prim.Native.Nat.{ℕ, ◌+◌, ◌*◌, ◌≤◌, ◌<◌}
 use mathlib.Core.Path.{◌≡◌, ap, ◌∙◌}
 use mathlib.Core.List.{List, []}
-use native.Mathlib.Nat.{suc-mul, mul-le-mul_right}
 use native.Mathlib.Omega.{arith}
 use lib.ListN.{length, get_or, take, drop, length-map}
 use lib.Seq.{get_or-take, get_or-drop}
-use Rattle.model.specs.declared.Code.{Code}
-use Rattle.model.specs.Words.{groups, same}
+use Rattle.model.specs.Words.{groups}
 use Rattle.model.specs.Codes.{unpacked, code_at}
 use Rattle.laws.proofs.Lists.{map_at, length-groups, groups_at}
-use Rattle.laws.proofs.Codes.{WordsFit, same_words, same_unpacked}
 use Rattle.records.specs.Records.{code_from, codes_in}
-
--- a record before the last ends within the words
-pub record_within : (i count size n : ℕ) → i < count → 4 ≤ size → count * size ≤ n → i * size + 4 ≤ n
-record_within i count size n l four h = omega (arith, suc-mul i size, mul-le-mul_right size l)
 
 -- what is read in a part of a list
 pub part_at : {A : Type 0} (size at : ℕ) (xs : List A) (k : ℕ) (d : A) → k < size → get_or (take size (drop at xs)) k d ≡ get_or xs (at + k) d
@@ -44,10 +37,3 @@ module _ (size count : ℕ) (words : List ℕ) where
           b = word_of 1 (i * size + 1 + 1) (omega arith) (omega arith) j;
           c = word_of 2 (i * size + 1 + 2) (omega arith) (omega arith) j;
         })
-
-    -- a record has a code exactly when their three words agree
-    pub same_at : (code : Code) → WordsFit code → ((k : ℕ) → get_or words k 0 < 2 ^ 32)
-        → same (get_or (codes_in size count words) i []) (unpacked code) ≡ same_words (code_from words (i * size + 1)) code
-    same_at code f known =
-        ap (λ (r : List ℕ). same r (unpacked code)) code_at_lem
-        ∙ same_unpacked (code_from words (i * size + 1)) code (known (i * size + 1), known (i * size + 1 + 1), known (i * size + 1 + 2)) f

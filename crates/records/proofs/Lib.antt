@@ -1,3 +1,3 @@
--- The laws behind the proofs of this crate; `rosters` and `stores` cite the first.
+-- The laws behind the proofs of this crate. Whoever takes records as lent words cites them too.
 pub mod Codes
-pub mod Walks
+pub mod Places

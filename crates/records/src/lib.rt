@@ -3,12 +3,12 @@
 // them, and none is offered outside.
 #![tactic(auto)]
 
-ghost use Rattle.std.specs.Prelude.{◌≡◌, ◌+◌, ◌*◌, ◌≤◌, length};
-ghost use Rattle.model.specs.Words.{all, first_place, same, all_differ};
+ghost use Rattle.std.specs.Prelude.{◌≡◌, ◌+◌, ◌*◌, ◌<◌, ◌≤◌, [], Some, None, ltb, length, get_or};
+ghost use Rattle.model.specs.Words.{◌when◌else◌, all, first_place, same, all_differ};
 ghost use Rattle.model.specs.Codes.{spelled, unpacked};
-ghost use Rattle.records.specs.Records.{code_from, codes_in};
+ghost use Rattle.records.specs.Records.{code_from, codes_in, is_new};
 
-use codes::{same_code, spelled_words};
+use codes::spelled_words;
 use model::Code;
 
 // The code whose three words start at a place.
@@ -23,55 +23,62 @@ pub fn code_in(words: &[u32], at: usize) -> Code
     }
 }
 
-// The code of a record.
-pub fn code_of(words: &[u32], size: usize, i: usize) -> Code
-    requires { i * size + 4 ≤ length words.now }
-    ensures { result ≡ code_from words.now (i * size + 1) }
-{
-    code_in(words, i * size + 1)
+// Records that stand one after the other from the first word on.
+#[derive(Clone, Copy)]
+pub struct Records<'a> {
+    pub words: &'a [u32],
+    pub size: usize,
+    pub count: usize,
+    ghost coded: { 4 ≤ size },
+    ghost whole: { count * size ≤ length words.now },
 }
 
-// Each of the codes is spelled right.
-pub fn all_spelled(words: &[u32], size: usize, count: usize) -> bool
-    requires { (4 ≤ size) × (count * size ≤ length words.now) }
-    ensures { result ≡ all spelled (codes_in size count words.now) }
-{
-    let mut i = 0;
-    while i < count {
-        if !spelled_words(code_of(words, size, i)) {
-            return false;
-        }
-        i += 1;
+impl<'a> Records<'a> {
+    // The code of a record.
+    pub fn code(&self, i: usize) -> Code
+        requires { i < self.now.count }
+        ensures words { result ≡ code_from self.now.words.now (i * self.now.size + 1) }
+        ensures code { unpacked result ≡ get_or (codes_in self.now.size self.now.count self.now.words.now) i [] }
+    {
+        code_in(self.words, i * self.size + 1)
     }
-    true
-}
 
-// The place of the first record with this code, and `count` where there is none.
-pub fn place_of(words: &[u32], size: usize, count: usize, code: Code) -> usize
-    requires { (4 ≤ size) × (count * size ≤ length words.now) }
-    ensures { result ≡ first_place (λ c. same c (unpacked code)) (codes_in size count words.now) }
-{
-    let mut place = 0;
-    while place < count {
-        if same_code(code_of(words, size, place), code) {
-            return place;
-        }
-        place += 1;
+    // The record has this code.
+    fn has(&self, i: usize, code: Code) -> bool
+        requires { i < self.now.count }
+        ensures { result ≡ same (get_or (codes_in self.now.size self.now.count self.now.words.now) i []) (unpacked code) }
+    {
+        self.code(i) == code
     }
-    place
-}
 
-// No two of the codes are the same: none has a place among those before it.
-pub fn all_differ(words: &[u32], size: usize, count: usize) -> bool
-    requires { (4 ≤ size) × (count * size ≤ length words.now) }
-    ensures { result ≡ all_differ (codes_in size count words.now) }
-{
-    let mut i = 0;
-    while i < count {
-        if place_of(words, size, i, code_of(words, size, i)) < i {
-            return false;
-        }
-        i += 1;
+    // Each of the codes is spelled right.
+    pub fn all_spelled(&self) -> bool
+        ensures { result ≡ all spelled (codes_in self.now.size self.now.count self.now.words.now) }
+    {
+        (0..self.count).all(|i| spelled_words(self.code(i)))
     }
-    true
+
+    // The place of the first record with this code.
+    pub fn place_of(&self, code: Code) -> Option<usize>
+        ensures { result ≡ (Some (first_place (λ c. same c (unpacked code)) (codes_in self.now.size self.now.count self.now.words.now))
+            when ltb (first_place (λ c. same c (unpacked code)) (codes_in self.now.size self.now.count self.now.words.now)) self.now.count else None) }
+    {
+        (0..self.count).position(|i| self.has(i, code))
+    }
+
+    // No record before this one has its code.
+    #[tactic(auto, unfolding(crate::specs::Records::is_new))]
+    fn is_new(&self, i: usize) -> bool
+        requires { i < self.now.count }
+        ensures { result ≡ is_new (codes_in self.now.size self.now.count self.now.words.now) i }
+    {
+        self.place_of(self.code(i)) == Some(i)
+    }
+
+    // No two of the codes are the same: each is new where it stands.
+    pub fn all_differ(&self) -> bool
+        ensures { result ≡ all_differ (codes_in self.now.size self.now.count self.now.words.now) }
+    {
+        (0..self.count).all(|i| self.is_new(i))
+    }
 }

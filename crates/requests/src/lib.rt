@@ -1,4 +1,4 @@
-// A request, and a batch of them: the number is decided before any word is written (`numbers`), and on 0 the request is carried out (`stored`). Meets
+// A request, and a batch of them: whether it may be carried out is decided before any word is written (`numbers`), and then it is (`stored`). Meets
 // the definitions of `model`'s Requests and Outcomes. Inner functions: the public calls go through them, and none is offered outside.
 #![tactic(auto)]
 
@@ -6,73 +6,50 @@ pub mod batch;
 pub mod numbers;
 pub mod stored;
 
+ghost use Rattle.model.specs.Refusals.{number_given};
 ghost use Rattle.model.specs.Outcomes.{request_from, RequestOutcome};
-ghost use Rattle.handed.specs.Handing.{counted_by, handed_by, Accepted};
+ghost use Rattle.handed.specs.Handing.{handed_by, Accepted};
 ghost use Rattle.requests.specs.Asking.{Answered};
 
-use handed::{counted, handed_number, has_rooms};
-use numbers::command_number;
-use schemes::{Loaded, command_of};
+use cards::batch::Request;
+use handed::{accept, rooms};
+use model::refusal::Refusal;
+use numbers::command_allowed;
+use rosters::Roster;
+use schemes::Loaded;
 use stored::carry_out;
+use stores::Store;
 
-// A request on what is accepted: its number, and with 0 it is carried out. A refused request changes nothing.
-pub fn answered(
-    l: Loaded,
-    people: usize,
-    roster: &[u32],
-    store: &mut [u32],
-    command: usize,
-    source: usize,
-    destination: usize,
-    code: &[u8],
-) -> u8
-    requires { Accepted (handed_by l people roster.now store.old) }
-    ensures { Answered (handed_by l people roster.now store.old) (request_from command source destination code.now) result store.new }
+// A request on what is accepted: where it may be, it is carried out. A refused request changes nothing.
+pub fn answered(l: &Loaded, roster: &Roster, store: &mut [u32], q: &Request) -> Result<(), Refusal>
+    requires { Accepted (handed_by l.now roster.now.people roster.now.words.now store.old) }
+    ensures { Answered (handed_by l.now roster.now.people roster.now.words.now store.old) (request_from q.now.command q.now.source q.now.destination q.now.code.now) (number_given result) store.new }
 {
-    if l.count <= command {
-        return 6;
-    }
-    let c = command_of(l, command);
-    let answer = command_number(c, people, roster, store, source, destination, code);
-    if answer != 0 {
-        return answer;
-    }
-    carry_out(c, store, source, destination, code);
-    0
+    let Some(c) = l.command(q.command) else {
+        return Err(Refusal::NoCommand);
+    };
+    command_allowed(c, roster, &Store { words: store }, q)?;
+    carry_out(c, store, q);
+    Ok(())
 }
 
 // A request on whatever is handed over.
+#[tactic(auto, using(crate::proofs::Answering::no_rooms, crate::proofs::Answering::not_accepted, crate::proofs::Answering::accepts))]
 pub fn request(
-    l: Loaded,
-    types: usize,
-    kinds: usize,
-    rights: usize,
+    l: &Loaded,
     roster: &[u32],
     people: usize,
     store: &mut [u32],
-    command: usize,
-    source: usize,
-    destination: usize,
-    code: &[u8],
-) -> u8
-    ensures { RequestOutcome (handed_by (counted_by l types kinds rights) people roster.now store.old) (request_from command source destination code.now) result store.new }
+    q: &Request,
+) -> Result<(), Refusal>
+    ensures { RequestOutcome (handed_by l.now people roster.now store.old) (request_from q.now.command q.now.source q.now.destination q.now.code.now) (number_given result) store.new }
 {
-    if !has_rooms(roster, store) {
-        return 20;
-    }
-    let scheme = counted(l, types, kinds, rights);
-    let number = handed_number(scheme, people, roster, store);
-    if number != 0 {
-        return number;
-    }
-    answered(
-        scheme,
+    rooms(roster, store)?;
+    accept(l, roster, people, store)?;
+    // Made anew: the roster that `accept` gives keeps the store lent.
+    let roster = Roster {
+        words: roster,
         people,
-        roster,
-        store,
-        command,
-        source,
-        destination,
-        code,
-    )
+    };
+    answered(l, &roster, store, q)
 }

@@ -1,3 +1,3 @@
 -- The laws behind the proofs of this crate.
 pub mod Loaded
-pub mod Filling
+pub mod Reading

@@ -4,7 +4,7 @@ use Prim.Native.Nat.{ℕ}
 use mathlib.Core.Bool.{false}
 use mathlib.Core.List.{List}
 use mathlib.Core.Logic.{inl, inr, by_cases}
-use mathlib.Core.Path.{◌≡◌, ap, ◌∙◌}
+use mathlib.Core.Path.{◌≡◌}
 use native.Mathlib.Decide.{dec_le}
 use native.Mathlib.Omega.{arith}
 use lib.ListN.{length}
@@ -16,22 +16,18 @@ use Rattle.schemes.specs.declared.Loaded.{Loaded}
 use Rattle.schemes.specs.Loads.{scheme_in, loaded_from}
 use Rattle.schemes.proofs.Loads.{loaded_stands, loaded_valid}
 use Rattle.schemes.proofs.Rules.{long}
-use Rattle.lent.specs.Loads.{loaded_of}
-use Rattle.lent.proofs.Loads.{loaded_scheme}
-use Rattle.handed.specs.Handing.{counted_by}
 
 pub as_one : (commands : List Command) (types kinds rights : ℕ)
-    → AsOne (scheme_in (counted_by (loaded_of commands) types kinds rights)) (scheme_from commands types kinds rights)
+    → AsOne (scheme_in (loaded_from (scheme_from commands types kinds rights))) (scheme_from commands types kinds rights)
 unfolding scheme_number
 as_one commands types kinds rights =
     let s = scheme_from commands types kinds rights in
-    let same : scheme_in (counted_by (loaded_of commands) types kinds rights) ≡ scheme_in (loaded_from s) = ap scheme_in (loaded_scheme commands types kinds rights) in
-    by_cases (dec_le (length commands) 64) (λ few. inl (same ∙ loaded_stands s few))
+    by_cases (dec_le (length commands) 64) (λ few. inl (loaded_stands s few))
     (λ many.
     let bad : scheme_is_valid s ≡ false = long s (omega arith) in
-    inr (rw (same, loaded_valid s, bad), rw bad))
+    inr (rw (loaded_valid s, bad), rw bad))
 
 -- the same of what the loading call answered
-pub loaded_as_one : (l : Loaded) (commands : List Command) → l ≡ loaded_of commands → (types kinds rights : ℕ)
-    → AsOne (scheme_in (counted_by l types kinds rights)) (scheme_from commands types kinds rights)
-loaded_as_one l commands e types kinds rights = rw e (as_one commands types kinds rights)
+pub loaded_as_one : (l : Loaded) (commands : List Command) (types kinds rights : ℕ) → l ≡ loaded_from (scheme_from commands types kinds rights)
+    → AsOne (scheme_in l) (scheme_from commands types kinds rights)
+loaded_as_one l commands types kinds rights e = rw e (as_one commands types kinds rights)

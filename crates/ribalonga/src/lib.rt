@@ -5,57 +5,35 @@
 
 ghost use Rattle.model.specs.Outcomes.{scheme_from, handed_from, request_from, question_from, ReadSchemeOutcome, ReadRosterOutcome, RequestOutcome, RunBatchOutcome, MayUseOutcome, AccessListOutcome, VerdictOfCreateOutcome, VerdictOfDesignOutcome};
 ghost use Rattle.model.specs.Lines.{BatchTextOutcome, VerdictTextOutcome, BatchWantedOutcome, VerdictWantedOutcome};
-ghost use Rattle.ribalonga.specs.Fills.{unfilled, FillsScheme};
-ghost use Rattle.std.specs.Prelude.{◌≡◌};
+ghost use Rattle.schemes.specs.Answers.{scheme_given};
 
-use lent::{Filled, load, store_all};
+use cards::batch::Request;
+use lent::{load, store_all};
+use model::refusal::{Refusal, number_given};
 use model::{AccessList, BatchRun, Command, MayUse, RosterRead, SchemeRead, Text, Verdict};
-use schemes::{MOST_COMMANDS, empty};
+use schemes::{Loaded, MOST_COMMANDS};
+use verdicts::{Question, calls};
 
-// A refused card: its number alone, and no command.
-fn unfilled(number: u8) -> Filled
-    ensures { result ≡ unfilled number }
+// A scheme card, read into the lent list: the scheme, of which the commands are written.
+fn read_into(card: &[u8], commands: &mut [Command]) -> Result<Loaded, Refusal>
+    ensures { ReadSchemeOutcome card.now commands.old (scheme_given result) commands.new }
 {
-    let scheme = empty(0, 0, 0);
-    let answer = SchemeRead {
-        number,
-        types: 0,
-        kinds: 0,
-        rights: 0,
-        commands: 0,
-    };
-    Filled { answer, scheme }
-}
-
-// What a scheme card gives to be written into a list with this room.
-fn scheme_filled(card: &[u8], room: usize) -> Filled
-    ensures { FillsScheme card.now room result }
-{
-    if room < MOST_COMMANDS {
-        return unfilled(20);
+    if commands.len() < MOST_COMMANDS {
+        return Err(Refusal::NoRoom);
     }
-    let read = cards::scheme::read_scheme(card);
-    if read.number != 0 {
-        return unfilled(read.number);
-    }
-    let scheme = read.scheme;
-    let answer = SchemeRead {
-        number: 0,
-        types: scheme.types,
-        kinds: scheme.kinds,
-        rights: scheme.rights,
-        commands: scheme.count,
-    };
-    Filled { answer, scheme }
+    let scheme = cards::scheme::read_scheme(card)?;
+    store_all(commands, &scheme);
+    Ok(scheme)
 }
 
 // A scheme card, read into the lent list of commands.
 pub fn read_scheme(card: &[u8], commands: &mut [Command]) -> SchemeRead
     ensures { ReadSchemeOutcome card.now commands.old result commands.new }
 {
-    let filled = scheme_filled(card, commands.len());
-    store_all(commands, filled.scheme);
-    filled.answer
+    match read_into(card, commands) {
+        Ok(scheme) => scheme.into(),
+        Err(refusal) => refusal.into(),
+    }
 }
 
 // A roster card, read with its scheme into the lent roster.
@@ -69,8 +47,7 @@ pub fn read_roster(
 ) -> RosterRead
     ensures { ReadRosterOutcome (scheme_from commands.now types kinds rights) card.now roster.old result roster.new }
 {
-    let l = load(commands);
-    readers::read_roster(l, types, kinds, rights, card, roster)
+    readers::read_roster(&load(commands, types, kinds, rights), card, roster).into()
 }
 
 // A command by a source person to a destination person, on the design with this code.
@@ -89,20 +66,14 @@ pub fn request(
 ) -> u8
     ensures { RequestOutcome (handed_from (scheme_from commands.now types kinds rights) roster.now people store.old) (request_from command source destination code.now) result store.new }
 {
-    let l = load(commands);
-    requests::request(
-        l,
-        types,
-        kinds,
-        rights,
-        roster,
-        people,
-        store,
+    let l = load(commands, types, kinds, rights);
+    let q = Request {
         command,
         source,
         destination,
         code,
-    )
+    };
+    number_given(&requests::request(&l, roster, people, store, &q))
 }
 
 // The requests of a batch card, one after the other, each with its answer.
@@ -119,10 +90,8 @@ pub fn run_batch(
 ) -> BatchRun
     ensures { RunBatchOutcome (handed_from (scheme_from commands.now types kinds rights) roster.now people store.old) card.now answers.old result store.new answers.new }
 {
-    let l = load(commands);
-    requests::batch::run_batch(
-        l, types, kinds, rights, roster, people, store, card, answers,
-    )
+    let l = load(commands, types, kinds, rights);
+    requests::batch::run_batch(&l, roster, people, store, card, answers).into()
 }
 
 // May this person use this right on the design with this code?
@@ -140,10 +109,8 @@ pub fn may_use(
 ) -> MayUse
     ensures { MayUseOutcome (handed_from (scheme_from commands.now types kinds rights) roster.now people store.now) person right code.now result }
 {
-    let l = load(commands);
-    questions::may_use(
-        l, types, kinds, rights, roster, people, store, person, right, code,
-    )
+    let l = load(commands, types, kinds, rights);
+    questions::may_use(&l, roster, people, store, person, right, code).into()
 }
 
 // The access list of the design with this code.
@@ -160,8 +127,8 @@ pub fn access_list(
 ) -> AccessList
     ensures { AccessListOutcome (handed_from (scheme_from commands.now types kinds rights) roster.now people store.now) code.now list.old result list.new }
 {
-    let l = load(commands);
-    questions::access_list(l, types, kinds, rights, roster, people, store, code, list)
+    let l = load(commands, types, kinds, rights);
+    questions::access_list(&l, roster, people, store, code, list).into()
 }
 
 // What a type of person can ever reach on a design that this create command makes.
@@ -178,18 +145,13 @@ pub fn verdict_of_create(
 ) -> Verdict
     ensures { VerdictOfCreateOutcome (scheme_from commands.now types kinds rights) command (question_from person_type right budget) table.old result table.new }
 {
-    let l = load(commands);
-    verdicts::calls::verdict_of_create(
-        l,
-        types,
-        kinds,
-        rights,
-        command,
+    let l = load(commands, types, kinds, rights);
+    let q = Question {
         person_type,
         right,
         budget,
-        table,
-    )
+    };
+    calls::verdict_of_create(&l, command, &q, table).into()
 }
 
 // What a type of person can ever reach on the design with this code, as it stands.
@@ -209,35 +171,27 @@ pub fn verdict_of_design(
 ) -> Verdict
     ensures { VerdictOfDesignOutcome (handed_from (scheme_from commands.now types kinds rights) roster.now people store.now) code.now (question_from person_type right budget) table.old result table.new }
 {
-    let l = load(commands);
-    verdicts::calls::verdict_of_design(
-        l,
-        types,
-        kinds,
-        rights,
-        roster,
-        people,
-        store,
-        code,
+    let l = load(commands, types, kinds, rights);
+    let q = Question {
         person_type,
         right,
         budget,
-        table,
-    )
+    };
+    calls::verdict_of_design(&l, roster, people, store, code, &q, table).into()
 }
 
 // The text that the batch program prints for the bytes it has read.
 pub fn batch_text(bytes: &[u8], text: &mut [u8]) -> Text
     ensures { BatchTextOutcome bytes.now text.old result text.new }
 {
-    texts::batch::batch_text(bytes, text)
+    texts::batch::batch_text(bytes, text).into()
 }
 
 // The text that the verdict program prints for the bytes it has read.
 pub fn verdict_text(bytes: &[u8], table: &mut [u32], text: &mut [u8]) -> Text
     ensures { VerdictTextOutcome bytes.now table.old text.old result table.new text.new }
 {
-    texts::verdict::verdict_text(bytes, table, text)
+    texts::verdict::verdict_text(bytes, table, text).into()
 }
 
 // How many more bytes the batch program must read.

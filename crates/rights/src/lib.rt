@@ -21,6 +21,7 @@ pub fn within(x: u32, s: u32) -> bool
 pub fn without(s: u32, y: u32) -> u32
     ensures { result ≡ without s y }
 {
+    // Stays: for `s & !y` the proof did not close, and the difference is the definition's own form.
     s - (s & y)
 }
 
@@ -63,7 +64,7 @@ pub fn fits_rights(s: u32, rights: usize) -> bool
     requires { rights ≤ 32 }
     ensures { result ≡ fits_rights rights s }
 {
-    (s as u64) < 1u64 << rights
+    u64::from(s) < 1u64 << rights
 }
 
 // The source cell of a grant after it lost Y.
@@ -81,9 +82,8 @@ pub fn after_gain(c: Command, cell: u32) -> u32
 }
 
 // The one cell of an internal, or of a grant to oneself: the loss comes first, then the gain.
-#[tactic(auto, unfolding(model::specs::Rights::with_those))]
 pub fn stepped(c: Command, cell: u32) -> u32
     ensures { result ≡ with_those (without cell c.y) c.z }
 {
-    without(cell, c.y) | c.z
+    after_gain(c, after_loss(c, cell))
 }

@@ -1,19 +1,17 @@
 -- The people of a roster by their places in the lent words: person p stands from word p * 4 on, and their codes are those of the records.
 -- Assumes nothing.
-use Prim.Native.Nat.{ℕ, ◌+◌, ◌*◌, ◌≤◌, ◌<◌}
+use Prim.Native.Nat.{ℕ, ◌+◌, ◌*◌, ◌<◌}
 use mathlib.Core.Path.{◌≡◌, refl, sym, ap, ◌∙◌}
-use mathlib.Core.Bool.{Bool, true, false, not, ◌||◌}
+use mathlib.Core.Bool.{Bool, not}
 use mathlib.Core.List.{List, [], ◌∷◌, map}
 use native.Mathlib.Nat.{add-zero}
-use native.Mathlib.Numerals.{add-one}
 use native.Mathlib.Omega.{arith}
-use borrow.Author.Tests.{lt-ltb, le-ltb}
 use lib.Dec.{ltb}
-use lib.ListN.{length, get_or, drop, length-map, drop_of_length-le}
-use Rattle.model.specs.Words.{any, groups}
+use lib.ListN.{length, get_or, drop, length-map}
+use Rattle.model.specs.Words.{groups}
 use Rattle.model.specs.Codes.{unpacked, code_at}
 use Rattle.model.specs.Rosters.{Person, nobody, type_at, person_of, roster_of}
-use Rattle.laws.proofs.Lists.{map_at, length-groups, groups_at, any-drop}
+use Rattle.laws.proofs.Lists.{map_at, length-groups, groups_at}
 use Rattle.records.specs.Records.{code_from, codes_in}
 use Rattle.records.proofs.Codes.{part_at, code_at_lem}
 
@@ -51,20 +49,3 @@ module _ (count : ℕ) (words : List ℕ) where
         sym (map_at (λ q. q.code) people nobody [] p (omega (arith, length-roster)))
         ∙ ap (λ (r : List (List ℕ)). get_or r p []) codes_of
         ∙ code_at_lem 4 count words (omega arith) p l
-
-  -- ---- whether some type is out of range: what is left of the people decides
-
-  module _ (types p : ℕ) where
-    pub none_left : count ≤ p → any (out types) (drop p people) ≡ false
-    none_left l = rw (drop_of_length-le people {i = p} (omega (arith, length-roster)))
-
-    -- at a person, with the type as a call gave it
-    module _ (l : p < count) (t : ℕ) (e : t ≡ type_at people p) where
-      from_here : any (out types) (drop p people) ≡ (not (ltb t types) || any (out types) (drop (p + 1) people))
-      from_here = rw (add-one p, e) (any-drop (out types) people p nobody (omega (arith, length-roster)))
-
-      pub out_here : types ≤ t → any (out types) (drop p people) ≡ true
-      out_here h = rw (from_here, le-ltb t types h)
-
-      pub in_here : t < types → any (out types) (drop (p + 1) people) ≡ any (out types) (drop p people)
-      in_here h = rw (from_here, lt-ltb t types h)

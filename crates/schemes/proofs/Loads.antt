@@ -1,21 +1,31 @@
--- What the commands of a loaded scheme are: as many as were counted, and each that is kept in its place; and how they grow as it is loaded.
+-- What the commands of a loaded scheme are: as many as were counted, and up to 64 those that are kept; and the rules by them.
 -- Assumes nothing.
-use Prim.Native.Nat.{ℕ, ◌≤◌, ◌<◌, ◌-◌, ◌+◌}
-use mathlib.Core.List.{List, [], ◌∷◌, ◌++◌, append-nil}
+use Prim.Native.Nat.{ℕ, ◌≤◌, ◌<◌, ◌-◌}
+use mathlib.Core.List.{List, ◌++◌, append-nil}
 use mathlib.Core.Path.{◌≡◌, refl, sym, ap, ◌∙◌}
 use native.Mathlib.Omega.{arith}
 use borrow.Author.Tests.{leb-true, leb-false}
 use lib.Dec.{leb}
-use lib.ListN.{length, get_or, take, set, replicate, length-append, length-take, length-replicate, get_or-append}
-use lib.Seq.{get_or-take, take_all, take-append-le, set_out}
+use lib.ListN.{length, get_or, take, replicate, length-append, length-take, length-replicate}
+use lib.Seq.{length-take-le, take_all}
 use Rattle.model.specs.declared.Command.{Command}
-use Rattle.model.specs.Words.{written_over}
-use Rattle.model.specs.Schemes.{Scheme, no_command, scheme_is_valid}
+use Rattle.std.specs.Prelude.{Option, Some, None, is_some, unwrap_or, option_map, option_copied, ltb}
+use denote.Bor.{Bor}
+use mathlib.Core.Bool.{◌&&◌, and-false}
+use Rattle.model.specs.Words.{◌when◌else◌, between, all}
+use Rattle.model.specs.Schemes.{Scheme, no_command, command_at, command_is_valid, scheme_is_valid}
 use Rattle.laws.proofs.Tests.{by_test}
-use Rattle.laws.proofs.Lists.{length-written, take-written, written_snoc}
+use Rattle.laws.proofs.Lists.{length-written, take-written}
 use Rattle.schemes.specs.declared.Loaded.{Loaded}
-use Rattle.schemes.specs.Loads.{listed, scheme_in, unloaded, loaded_from}
+use Rattle.schemes.specs.Loads.{listed, scheme_in, loaded_from}
 use Rattle.schemes.proofs.Rules.{long}
+
+-- up to 64, its commands are those that are kept
+pub listed_few : (l : Loaded) → l.count ≤ 64 → listed l ≡ take l.count l.commands
+unfolding listed
+listed_few l h =
+    let none : l.count - 64 ≡ 0 = omega arith in
+    ap (λ (n : ℕ). take l.count l.commands ++ replicate n no_command) none ∙ append-nil (take l.count l.commands)
 
 module _ (l : Loaded) (whole : length l.commands ≡ 64) where
   pub listed-length : length (listed l) ≡ l.count
@@ -24,31 +34,7 @@ module _ (l : Loaded) (whole : length l.commands ≡ 64) where
       length-append (take l.count l.commands) (replicate (l.count - 64) no_command)
       ∙ omega (arith, length-take l.count l.commands, length-replicate (l.count - 64) no_command)
 
-  pub listed_kept : l.count ≤ 64 → listed l ≡ take l.count l.commands
-  unfolding listed
-  listed_kept h =
-      let none : l.count - 64 ≡ 0 = omega arith in
-      ap (λ (n : ℕ). take l.count l.commands ++ replicate n no_command) none ∙ append-nil (take l.count l.commands)
-
-  pub listed_at : (i : ℕ) → i < l.count → i < 64 → get_or (listed l) i no_command ≡ get_or l.commands i no_command
-  unfolding listed
-  listed_at i h k =
-      get_or-append (take l.count l.commands) (replicate (l.count - 64) no_command) no_command i
-      (omega (arith, length-take l.count l.commands))
-      ∙ get_or-take l.count l.commands i no_command h
-
--- ---- loading
-
--- one command more, kept in its place; past the last place it is counted and not kept
-unfoldable pub pushed : Loaded → Command → Loaded
-pushed l c = record { types = l.types; kinds = l.kinds; rights = l.rights; count = l.count + 1; commands = set l.commands l.count c }
-
 -- ---- a whole scheme, loaded
-
-pub loaded_none : (types kinds rights : ℕ)
-    → loaded_from (record { types = types; kinds = kinds; rights = rights; commands = [] }) ≡ unloaded types kinds rights
-unfolding loaded_from unloaded written_over
-loaded_none types kinds rights = refl
 
 module _ (s : Scheme) where
   pub loaded_whole : length (loaded_from s).commands ≡ 64
@@ -61,7 +47,7 @@ module _ (s : Scheme) where
   loaded_stands few =
       let kept : take 64 s.commands ≡ s.commands = take_all 64 s.commands few in
       let e : listed (loaded_from s) ≡ s.commands =
-      listed_kept (loaded_from s) loaded_whole few ∙ rw kept (take-written s.commands (replicate 64 no_command)) in
+      listed_few (loaded_from s) few ∙ rw kept (take-written s.commands (replicate 64 no_command)) in
       ap (λ (cs : List Command). record { types = s.types; kinds = s.kinds; rights = s.rights; commands = cs }) e
 
   -- whatever the count, it is valid exactly if the scheme is
@@ -74,22 +60,28 @@ module _ (s : Scheme) where
       let many : 64 < length s.commands = leb-false (length s.commands) 64 q in
       long (scheme_in (loaded_from s)) (omega (arith, listed-length (loaded_from s) loaded_whole)) ∙ sym (long s many))
 
--- one command more is kept in its place, or past the last place changes nothing
-kept_pushed : (cs : List Command) (c : Command)
-    → written_over (take 64 (cs ++ c ∷ [])) (replicate 64 no_command) ≡ set (written_over (take 64 cs) (replicate 64 no_command)) (length cs) c
-kept_pushed cs c =
-    by_test (leb (length cs) 63)
-    (λ p.
-    let few : length cs ≤ 63 = leb-true (length cs) 63 p in
-    rw (take_all 64 cs (omega arith), take_all 64 (cs ++ c ∷ []) (omega (arith, length-append cs (c ∷ []))))
-    (written_snoc cs (replicate 64 no_command) c (omega arith)))
-    (λ q.
-    let many : 63 < length cs = leb-false (length cs) 63 q in
-    let old = replicate 64 no_command in
-    let l : length (written_over (take 64 cs) old) ≡ 64 = length-written (take 64 cs) old (omega (arith, length-take 64 cs)) in
-    rw (take-append-le 64 cs (c ∷ []) (omega arith)) (sym (set_out (written_over (take 64 cs) old) (length cs) c (omega arith))))
+-- the rules of a loaded scheme, by its count and the commands that are kept: past its size the commands don't matter
+module _ (l : Loaded) (whole : length l.commands ≡ 64) where
+  pub valid_as_kept : scheme_is_valid (scheme_in l)
+      ≡ ((between 1 8 l.types && between 1 4 l.kinds && between 1 32 l.rights && leb l.count 64)
+      && all (command_is_valid l.types l.kinds l.rights) (take l.count l.commands))
+  unfolding scheme_is_valid
+  valid_as_kept =
+      by_test (leb l.count 64)
+      (λ p. rw (listed_few l (leb-true l.count 64 p), length-take-le l.count l.commands (omega (arith, leb-true l.count 64 p)), p) refl)
+      (λ q. rw (listed-length l whole, q, and-false (between 1 8 l.types && between 1 4 l.kinds && between 1 32 l.rights)) refl)
 
-pub loaded_pushed : (s : Scheme) (c : Command)
-    → loaded_from (record { types = s.types; kinds = s.kinds; rights = s.rights; commands = s.commands ++ (c ∷ []) }) ≡ pushed (loaded_from s) c
-unfolding loaded_from pushed
-loaded_pushed s c = rw (length-append s.commands (c ∷ []), kept_pushed s.commands c)
+-- ---- looked up
+
+-- what is copied out of the kept commands at a place is the command there, if the scheme has so many
+module _ (l : Loaded) (whole : length l.commands ≡ 64) (few : length (listed l) ≤ 64) (i : ℕ) {kept : List Command} (e : kept ≡ take l.count l.commands) where
+  all_kept : kept ≡ listed l
+  all_kept = e ∙ sym (listed_few l (omega (arith, listed-length l whole)))
+
+  pub looked_up : (read : Option (Bor Command)) → is_some read ≡ ltb i (length kept)
+      → unwrap_or (option_map (λ c. c.now) read) no_command ≡ get_or kept i no_command
+      → option_copied read ≡ (Some (command_at (scheme_in l) i) when ltb i (length (listed l)) else None)
+  looked_up None there it = rw (sym (there ∙ ap (λ (cs : List Command). ltb i (length cs)) all_kept)) refl
+  looked_up (Some y) there it =
+      rw (sym (there ∙ ap (λ (cs : List Command). ltb i (length cs)) all_kept))
+      (ap Some (it ∙ ap (λ (cs : List Command). get_or cs i no_command) all_kept))

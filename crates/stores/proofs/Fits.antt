@@ -1,22 +1,21 @@
 -- Whether designs fit a scheme and a roster: of the cells past the roster it is enough to ask whether they are empty.
 -- Assumes nothing.
-use Prim.Native.Nat.{ℕ, ◌+◌, ◌-◌, ◌*◌, ◌≤◌, ◌<◌}
-use mathlib.Core.Path.{◌≡◌, sym, ap, ◌∙◌}
-use mathlib.Core.Bool.{Bool, true, false, not, ◌&&◌, and_assoc, and-true, and-false}
-use mathlib.Core.List.{List, [], map}
+use Prim.Native.Nat.{ℕ, ◌-◌, ◌<◌}
+use mathlib.Core.Path.{◌≡◌, refl, ap, ◌∙◌}
+use mathlib.Core.Bool.{Bool, true, ◌&&◌, and_assoc, and-true, and-false}
+use mathlib.Core.List.{List}
 use native.Mathlib.Omega.{arith}
 use lib.Dec.{eqb, ltb}
-use lib.ListN.{length, get_or, take, drop, length-map}
+use lib.ListN.{length, get_or, take, drop, length-drop}
+use lib.Seq.{take_all}
 use lib.Pow.{pow_pos}
-use borrow.Author.Tests.{eqb-true, lt-ltb, le-ltb, not-true, not-false}
-use Rattle.model.specs.Words.{all, groups}
+use borrow.Author.Tests.{eqb-true, lt-ltb}
+use Rattle.model.specs.Words.{all}
 use Rattle.model.specs.Rights.{fits_rights}
-use Rattle.model.specs.Stores.{Design, no_design, fits_design, design_of}
+use Rattle.model.specs.Stores.{fits_design, design_of}
 use Rattle.laws.proofs.Tests.{by_test}
 use Rattle.laws.proofs.Bits.{lt_fits}
-use Rattle.laws.proofs.Lists.{all_at, at_all, all_cut, map_at, length-groups, groups_at}
-use Rattle.codes.proofs.Lists.{all_passed, all_failed, all_ended}
-use Rattle.stores.proofs.Designs.{rest_is}
+use Rattle.laws.proofs.Lists.{all_at, at_all, all_cut}
 
 abbrev pub empty : ℕ → Bool
 empty cell = eqb cell 0
@@ -35,57 +34,20 @@ module _ (rights : ℕ) where
       (λ p. rw (all_cut (fits_rights rights) people cells, empty_fits (drop people cells) p, and-true))
       (λ q. simp (q, and-false))
 
--- ---- one design, as its words and the parts of them are lent
+-- ---- one design: its kind, its cells on the roster, and those past it
 
 module _ (kinds rights people : ℕ) (words : List ℕ) where
-  abbrev cells : List ℕ
-  cells = take (length words - 4) (drop 4 words)
-
-  fits_is : fits_design kinds rights people (design_of words)
-      ≡ (ltb (get_or words 0 0) kinds && (all (fits_rights rights) (take people cells) && all empty (drop people cells)))
+  pub fits_is : fits_design kinds rights people (design_of words)
+      ≡ (ltb (get_or words 0 0) kinds && (all (fits_rights rights) (take people (drop 4 words)) && all empty (drop people (drop 4 words))))
   unfolding fits_design
   fits_is =
       and_assoc (ltb (get_or words 0 0) kinds) (all (fits_rights rights) (drop 4 words)) (all empty (drop people (drop 4 words)))
-      ∙ rw (rest_is 4 words) (ap (λ (b : Bool). ltb (get_or words 0 0) kinds && b) (past_the_roster rights people (drop 4 words)))
+      ∙ ap (λ (b : Bool). ltb (get_or words 0 0) kinds && b) (past_the_roster rights people (drop 4 words))
 
-  pub kind_refused : kinds ≤ get_or words 0 0 → fits_design kinds rights people (design_of words) ≡ false
-  kind_refused h = rw (fits_is, le-ltb (get_or words 0 0) kinds h)
-
-  module _ (k : get_or words 0 0 < kinds) where
-    pub cells_refused : all (fits_rights rights) (take people cells) ≡ false → fits_design kinds rights people (design_of words) ≡ false
-    cells_refused h = rw (fits_is, lt-ltb (get_or words 0 0) kinds k, h)
-
-    pub rest_decides : all (fits_rights rights) (take people cells) ≡ true
-        → all empty (take (length cells - people) (drop people cells)) ≡ fits_design kinds rights people (design_of words)
-    rest_decides h = rw (fits_is, lt-ltb (get_or words 0 0) kinds k, h, rest_is people cells)
-
--- ---- the designs in a row: what is left of them decides
-
-module _ (kinds rights people count : ℕ) (words : List ℕ) where
-  abbrev designs : List Design
-  designs = map design_of (groups 36 count words)
-
-  abbrev test : Design → Bool
-  test = fits_design kinds rights people
-
-  length-designs : length designs ≡ count
-  length-designs = length-map (groups 36 count words) design_of ∙ length-groups 36 count words
-
-  module _ (i : ℕ) where
-    pub fit_ended : count ≤ i → all test (drop i designs) ≡ true
-    fit_ended l = all_ended test designs i no_design (omega (arith, length-designs))
-
-    -- the design at a place, as it is lent, with the answer of a call
-    module _ (l : i < count) (b : Bool) (h : b ≡ test (design_of (take (i * 36 + 36 - i * 36) (drop (i * 36) words)))) where
-      fits_at : test (get_or designs i no_design) ≡ b
-      fits_at =
-          let width : i * 36 + 36 - i * 36 ≡ 36 = omega arith in
-          ap test (map_at design_of (groups 36 count words) [] no_design i (omega (arith, length-groups 36 count words)))
-          ∙ ap (λ (g : List ℕ). test (design_of g)) (groups_at 36 count words [] i l)
-          ∙ sym (rw width at h)
-
-      pub fit_passed : not b ≡ false → all test (drop (i + 1) designs) ≡ all test (drop i designs)
-      fit_passed p = all_passed test designs i no_design (omega (arith, length-designs)) (fits_at ∙ not-false b p)
-
-      pub fit_failed : not b ≡ true → all test (drop i designs) ≡ false
-      fit_failed p = all_failed test designs i no_design (omega (arith, length-designs)) (fits_at ∙ not-true b p)
+  -- with the kind and the cells as they were read
+  pub rest_decides : (kind : ℕ) → kind ≡ get_or words 0 0 → kind < kinds → (cells : List ℕ) → cells ≡ drop 4 words → all (fits_rights rights) (take people cells) ≡ true
+      → all empty (take (length cells - people) (drop people cells)) ≡ fits_design kinds rights people (design_of words)
+  rest_decides kind k below cells e held =
+      let rest : take (length cells - people) (drop people cells) ≡ drop people cells =
+      take_all (length cells - people) (drop people cells) (omega (arith, length-drop people cells)) in
+      rw (fits_is, ← k, lt-ltb kind kinds below, ← e, held, rest) refl

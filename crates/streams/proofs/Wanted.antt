@@ -1,15 +1,13 @@
--- How many bytes are wanted, and where a card ends, at each exit, whose tests are the definitions', in their order.
+-- How many bytes are wanted at each exit, whose tests are the definitions', in their order.
 -- Assumes nothing.
 use Prim.Native.Nat.{ℕ, ◌-◌, ◌≤◌, ◌<◌}
-use mathlib.Core.Path.{◌≡◌, refl, sym, ◌∙◌}
+use mathlib.Core.Path.{◌≡◌}
 use mathlib.Core.List.{List}
 use native.Mathlib.Omega.{arith}
 use borrow.Author.Tests.{lt-ltb, le-ltb, le-leb, ne_eqb}
-use lib.ListN.{length, get_or, drop_of_length-le}
-use lib.Seq.{take_all}
+use lib.ListN.{length, get_or}
 use Rattle.model.specs.Cards.{version, scheme_of, scheme_card_number, roster_card_number}
 use Rattle.model.specs.Lines.{card_length, card_of, after_card, card_wanted, batch_wanted}
-use Rattle.streams.specs.Ends.{CardEnd}
 
 module _ (stream : List ℕ) where
   -- ---- one card
@@ -37,16 +35,6 @@ module _ (stream : List ℕ) where
       pub wanted_rest : card_length stream ≤ 65536 → card_wanted stream ≡ card_length stream - length stream
       unfolding card_wanted
       wanted_rest h = rw (le-leb 1 (length stream) some, v, le-ltb (length stream) 3 head, le-ltb 65536 (card_length stream) h)
-
-  pub ends_early : length stream ≤ card_length stream → CardEnd stream (length stream)
-  ends_early h = record {
-    inside = omega arith;
-    card = take_all (length stream) stream (omega arith) ∙ sym (take_all (card_length stream) stream h);
-    after = drop_of_length-le stream {i = length stream} (omega arith) ∙ sym (drop_of_length-le stream {i = card_length stream} h);
-  }
-
-  pub ends_whole : card_length stream ≤ length stream → CardEnd stream (card_length stream)
-  ends_whole h = record { inside = h; card = refl; after = refl }
 
   -- ---- the three cards
 

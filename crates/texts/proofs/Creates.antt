@@ -1,40 +1,44 @@
--- The parts of the verdict program's text: how they grow, and the table with them, what a create's lines are, and that they have room in what the sizes allow.
+-- The parts of the verdict program's text: what is left of each begins with the next line, and the table with it, what a create's lines are, and that
+-- they have room in what the sizes allow.
 -- Assumes nothing.
-use Prim.Native.Nat.{ℕ, suc, ◌+◌, ◌*◌, ◌≤◌, ◌<◌}
+use Prim.Native.Nat.{ℕ, suc, ◌+◌, ◌-◌, ◌*◌, ◌≤◌, ◌<◌}
 use mathlib.Core.Bool.{true, false}
-use mathlib.Core.List.{List, [], ◌∷◌, ◌++◌, map, map-append, append-nil, append_assoc}
+use mathlib.Core.List.{List, [], ◌∷◌, ◌++◌, map, append-nil}
 use mathlib.Core.Path.{◌≡◌, refl, sym, ap, ◌∙◌}
-use native.Mathlib.Nat.{add-zero, zero-add}
+use native.Mathlib.Nat.{sub-zero}
+use native.Mathlib.Numerals.{add-one}
 use native.Mathlib.Omega.{arith}
 use borrow.Author.Tests.{eqb-true, eqb-false, ne_eqb}
 use lib.Dec.{eqb}
-use lib.ListN.{length, take, length-append}
-use lib.Seq.{length-take-le, take-suc, take-length}
+use Rattle.std.specs.Prelude.{Option, Some, None}
+use lib.ListN.{length, get_or, drop, length-append, drop_of_length-le}
+use lib.Seq.{drop-cons}
 use Rattle.model.specs.declared.Command.{Command}
 use Rattle.model.specs.declared.Verdict.{Verdict}
+use Rattle.model.specs.declared.answers.Judgement.{Judgement}
+use Rattle.model.specs.declared.answers.Judgement.TheVariants.{NotNormal, Overlap, PastBudget, Duplicate, Listed}
+use Rattle.model.specs.Answers.{judged}
 use Rattle.model.specs.Words.{joined, numbers_from, groups}
-use Rattle.model.specs.Schemes.{Scheme, no_command, is_create, command_in, command_at, scheme_is_valid, scheme_number}
+use Rattle.model.specs.Schemes.{Scheme, no_command, is_create, scheme_number}
 use Rattle.model.specs.Rights.{together}
 use Rattle.model.specs.Forms.{cell_at}
 use Rattle.model.specs.Kinds.{row_of_create}
 use Rattle.model.specs.Listing.{Row}
-use Rattle.model.specs.Verdicts.{start_of_create, rows_from, is_in_range, verdict_from, table_after}
+use Rattle.model.specs.Verdicts.{start_of_create, rows_from, verdict_from, table_after}
+use Rattle.model.specs.Cards.{scheme_of, scheme_card_number}
 use Rattle.model.specs.Lines.{decimal, hexadecimal, line, whole_question, line_t, lines_t, lines_c, command_lines, create_lines, table_after_command, table_after_creates}
-use Rattle.laws.proofs.Tests.{by_test, passed, accepted}
-use Rattle.laws.proofs.Lists.{joined-append, length-numbers, numbers_at}
+use Rattle.laws.proofs.Tests.{by_test}
+use Rattle.laws.proofs.Lists.{length-numbers, numbers_at}
 use Rattle.laws.proofs.Forms.{created_length}
-use Rattle.laws.proofs.Checks.{valid_scheme}
+use Rattle.laws.proofs.Checks.{ValidScheme, valid_scheme}
 use Rattle.schemes.specs.declared.Loaded.{Loaded}
-use Rattle.schemes.specs.Loads.{scheme_in}
+use Rattle.schemes.specs.Loads.{listed, scheme_in, loaded_from}
 use Rattle.verdicts.specs.Asking.{Answered}
-use Rattle.verdicts.proofs.Asked.{askable}
-use Rattle.lines.specs.declared.Line.{Line}
-use Rattle.lines.specs.Lines.{Says}
 use Rattle.lines.proofs.Figures.{length-decimal, length-hexadecimal}
-use Rattle.texts.specs.Creates.{types_text, CanTell}
-use Rattle.texts.proofs.Growing.{Grows}
-use Rattle.texts.proofs.Lines.{first_numbers}
+use Rattle.texts.specs.Creates.{types_text}
+use Rattle.texts.proofs.Lines.{numbers_left}
 use Rattle.texts.proofs.Lengths.{line_length, one_figure, two_figures, length-joined_each}
+use Rattle.texts.proofs.Printing.{scheme_read_lem}
 use Rattle.texts.proofs.Verdicts.{number_few, states_few, table_rows}
 
 -- ---- types
@@ -43,53 +47,73 @@ use Rattle.texts.proofs.Verdicts.{number_few, states_few, table_rows}
 abbrev pub union : List Row → ℕ → ℕ
 union rows t = together (map (λ row. cell_at row t) rows)
 
-pub types_grow : (rows : List Row) (n : ℕ) → Grows (types_text rows) (line_t rows) n
-unfolding types_text
-types_grow rows n i l =
-    ap (λ (ts : List ℕ). joined (map (line_t rows) ts)) (first_numbers i)
-    ∙ rw (map-append, joined-append) (ap (λ (t : List ℕ). joined (map (line_t rows) (numbers_from 0 i)) ++ t) (append-nil _))
+-- of the types from t on, below n
+abbrev pub types_from : List Row → ℕ → ℕ → List ℕ
+types_from rows n t = joined (map (line_t rows) (numbers_from t (n - t)))
 
-pub type_said : {l : Line} (rows : List Row) (t rights : ℕ) → Says l (line "T" (decimal t ∷ hexadecimal rights ∷ [])) → rights ≡ union rows t
-    → Says l (line_t rows t)
+pub types_whole : (rows : List Row) (n : ℕ) → types_text rows n ≡ types_from rows n 0
+types_whole rows n = rw (sub-zero n) refl
+
+pub types_left : (rows : List Row) (n t : ℕ) → t < n → types_from rows n t ≡ line_t rows t ++ types_from rows n (t + 1)
+types_left rows n t l = rw (numbers_left t n l) refl
+
+pub type_said : {l : List ℕ} (rows : List Row) (t rights : ℕ) → l ≡ (line "T" (decimal t ∷ hexadecimal rights ∷ [])) → rights ≡ union rows t
+    → l ≡ (line_t rows t)
 unfolding line_t
 type_said rows t rights says e = rw (← e) says
 
 -- ---- commands
 
-module _ (s : Scheme) where
-  creates_snoc : (k : ℕ) (cs : List Command) (c : Command) → create_lines s k (cs ++ c ∷ []) ≡ create_lines s k cs ++ command_lines s (k + length cs) c
+module _ (s : Scheme) (k : ℕ) (c : Command) where
+  no_lines : is_create c ≡ false → command_lines s k c ≡ []
+  unfolding command_lines
+  no_lines e = rw e refl
+
+  its_lines : is_create c ≡ true → command_lines s k c ≡ lines_c s k c
+  unfolding command_lines
+  its_lines e = rw e refl
+
+pub creates_none : (s : Scheme) (cs : List Command) (k : ℕ) → length cs ≤ k → create_lines s k (drop k cs) ≡ []
+unfolding create_lines
+creates_none s cs k h = rw (drop_of_length-le cs h) refl
+
+pub tables_none : (commands cs : List Command) (k : ℕ) (table : List ℕ) → length cs ≤ k → table_after_creates commands (drop k cs) table ≡ table
+unfolding table_after_creates
+tables_none commands cs k table h = rw (drop_of_length-le cs h) refl
+
+module _ (s : Scheme) (k : ℕ) (inside : k < length s.commands) where
+  abbrev at_hand : Command
+  at_hand = get_or s.commands k no_command
+
+  -- what is left behind it
+  abbrev lines_behind : List ℕ
+  lines_behind = create_lines s (k + 1) (drop (k + 1) s.commands)
+
+  abbrev table_behind : List ℕ → List ℕ
+  table_behind table = table_after_creates s.commands (drop (k + 1) s.commands) table
+
+  lines_left : create_lines s k (drop k s.commands) ≡ command_lines s k at_hand ++ lines_behind
   unfolding create_lines
-  creates_snoc k [] c = rw (add-zero k) (append-nil _)
-  creates_snoc k (d ∷ cs) c =
-      let e : suc k + length cs ≡ k + suc (length cs) = omega arith in
-      rw (← e, append_assoc) (ap (λ (t : List ℕ). command_lines s k d ++ t) (creates_snoc (suc k) cs c))
+  lines_left = rw (drop-cons s.commands k no_command inside, add-one k) refl
 
-  -- of the first k commands, and of command k
-  abbrev pub creates_text : ℕ → List ℕ
-  creates_text k = create_lines s 0 (take k s.commands)
-
-  abbrev pub command_text : ℕ → List ℕ
-  command_text k = command_lines s k (command_at s k)
-
-  pub creates_grow : Grows creates_text command_text (length s.commands)
-  creates_grow i l =
-      let e : 0 + length (take i s.commands) ≡ i = zero-add _ ∙ length-take-le i s.commands (omega arith) in
-      rw (take-suc s.commands i no_command l) (creates_snoc 0 (take i s.commands) (command_at s i) ∙ rw e)
-
-  pub creates_all : creates_text (length s.commands) ≡ create_lines s 0 s.commands
-  creates_all = rw (take-length s.commands)
-
-module _ (commands : List Command) where
-  table_snoc : (cs : List Command) (c : Command) (table : List ℕ)
-      → table_after_creates commands (cs ++ c ∷ []) table ≡ table_after_command commands c (table_after_creates commands cs table)
+  table_left : (table : List ℕ) → table_after_creates s.commands (drop k s.commands) table ≡ table_behind (table_after_command s.commands at_hand table)
   unfolding table_after_creates
-  table_snoc [] c table = refl
-  table_snoc (d ∷ cs) c table = table_snoc cs c (table_after_command commands d table)
+  table_left table = rw (drop-cons s.commands k no_command inside, add-one k) refl
 
-  pub table_grows : (i : ℕ) (table : List ℕ) → i < length commands
-      → table_after_creates commands (take (suc i) commands) table
-      ≡ table_after_command commands (command_in commands i) (table_after_creates commands (take i commands) table)
-  table_grows i table l = rw (take-suc commands i no_command l) (table_snoc (take i commands) (command_in commands i) table)
+  pub create_lines_left : is_create at_hand ≡ true → create_lines s k (drop k s.commands) ≡ lines_c s k at_hand ++ lines_behind
+  create_lines_left e = lines_left ∙ ap (λ (t : List ℕ). t ++ lines_behind) (its_lines s k at_hand e)
+
+  pub create_table_left : is_create at_hand ≡ true → (table after : List ℕ) → after ≡ table_after s.commands (start_of_create at_hand) whole_question table
+      → table_after_creates s.commands (drop k s.commands) table ≡ table_behind after
+  unfolding table_after_command
+  create_table_left e table after is = table_left table ∙ rw (e, is) refl
+
+  pub other_lines_left : is_create at_hand ≡ false → create_lines s k (drop k s.commands) ≡ lines_behind
+  other_lines_left e = lines_left ∙ ap (λ (t : List ℕ). t ++ lines_behind) (no_lines s k at_hand e)
+
+  pub other_table_left : is_create at_hand ≡ false → (table : List ℕ) → table_after_creates s.commands (drop k s.commands) table ≡ table_behind table
+  unfolding table_after_command
+  other_table_left e table = table_left table ∙ rw e refl
 
 -- ---- a create
 
@@ -109,7 +133,7 @@ module _ (s : Scheme) (k : ℕ) (c : Command) where
   create_alone some = rw (ne_eqb verdict.number 0 some) (append-nil own_text)
 
   create_told : verdict.number ≡ 0 → lines_c s k c ≡ own_text ++ their_text
-  unfolding lines_c lines_t types_text
+  unfolding lines_c lines_t
   create_told zero = rw zero refl
 
   pub own_room : length own_text ≤ length (lines_c s k c)
@@ -118,38 +142,48 @@ module _ (s : Scheme) (k : ℕ) (c : Command) where
       (λ p. omega (arith, ap length (create_told (eqb-true verdict.number 0 p)), length-append own_text their_text))
       (λ q. omega (arith, ap length (create_alone (eqb-false verdict.number 0 q))))
 
-  pub no_lines : is_create c ≡ false → (table : List ℕ) → (command_lines s k c ≡ []) × (table_after_command s.commands c table ≡ table)
-  unfolding command_lines table_after_command
-  no_lines e table = (rw e refl, rw e refl)
-
-  pub its_lines : is_create c ≡ true → (table : List ℕ)
-      → (command_lines s k c ≡ lines_c s k c) × (table_after_command s.commands c table ≡ table_after s.commands (start_of_create c) whole_question table)
-  unfolding command_lines table_after_command
-  its_lines e table = (rw e refl, rw e refl)
-
 -- ---- what the call of a create's verdict gives
 
-module _ (s : Scheme) (k : ℕ) (c : Command) {table : List ℕ} {v : Verdict} {after : List ℕ}
-    (answered : Answered s.commands (start_of_create c) whole_question table v after) where
-  pub few_states : v.states ≤ 2048
-  few_states = rw answered.answer_is (states_few s.commands (start_of_create c) whole_question)
+listed_is : (states : ℕ) (held : Option ℕ) → ((judged (Listed states held)).number ≡ 0) × ((judged (Listed states held)).states ≡ states)
+listed_is states None = (refl, refl)
+listed_is states (Some state) = (refl, refl)
 
-  pub own_said : {l : Line} → Says l (line "C" (decimal k ∷ decimal v.number ∷ decimal v.states ∷ [])) → Says l (own_text s k c)
-  own_said says = rw (← answered.answer_is) says
+other_is : (j : Judgement) → ((states : ℕ) (held : Option ℕ) → j ≡ Listed states held → ⊥) → (judged j).number ≡ 0 → ⊥
+other_is (NotNormal command) not e = omega (arith, e)
+other_is Overlap not e = omega (arith, e)
+other_is (PastBudget budget) not e = omega (arith, e)
+other_is (Duplicate states state command) not e = omega (arith, e)
+other_is (Listed states held) not e = not states held refl
 
-  pub is_alone : (v.number ≡ 0 → ⊥) → lines_c s k c ≡ own_text s k c
-  is_alone some = create_alone s k c (rw answered.answer_is at some)
+module _ (s : Scheme) (k : ℕ) (c : Command) {table : List ℕ} (j : Judgement) {after : List ℕ}
+    (answered : Answered s.commands (start_of_create c) whole_question table (judged j) after) where
+  abbrev asked : Verdict
+  asked = verdict_from s.commands (start_of_create c) whole_question
 
-  pub is_told : v.number ≡ 0 → lines_c s k c ≡ own_text s k c ++ their_text s k c
-  is_told zero = create_told s k c (rw answered.answer_is at zero)
+  pub few_number : {v : Verdict} → v ≡ judged j → v.number ≤ 19
+  few_number e = rw (e, answered.answer_is) (number_few s.commands (start_of_create c) whole_question)
+
+  pub few_states : {v : Verdict} → v ≡ judged j → v.states ≤ 2048
+  few_states e = rw (e, answered.answer_is) (states_few s.commands (start_of_create c) whole_question)
+
+  pub own_said : {l : List ℕ} {v : Verdict} {n : ℕ} → v ≡ judged j → n ≡ v.number
+      → l ≡ (line "C" (decimal k ∷ decimal n ∷ decimal v.states ∷ [])) → l ≡ own_text s k c
+  own_said e is says = rw (is, e, answered.answer_is) at says
+
+  pub is_alone : ((states : ℕ) (held : Option ℕ) → j ≡ Listed states held → ⊥) → lines_c s k c ≡ own_text s k c
+  is_alone not = create_alone s k c (rw answered.answer_is at (other_is j not))
 
   -- with 0 the rows that the table begins with are the listing
-  pub their_rows : v.number ≡ 0 → their_text s k c ≡ types_text (groups 8 v.states after) s.types
+  pub is_told : {states : ℕ} {held : Option ℕ} → j ≡ Listed states held
+      → (states ≤ 2048) × (lines_c s k c ≡ own_text s k c ++ types_text (groups 8 states after) s.types)
   unfolding row_of_create
-  their_rows zero =
-      rw (answered.table_is, answered.answer_is)
-      (ap (λ (rows : List Row). types_text rows s.types)
-      (sym (table_rows s.commands (start_of_create c) whole_question (rw answered.answer_is at zero) (created_length c c.source 8) table)))
+  is_told {states} {held} is =
+      let zero : asked.number ≡ 0 = sym (ap (λ (v : Verdict). v.number) answered.answer_is) ∙ rw is (listed_is states held).0 in
+      let count : asked.states ≡ states = sym (ap (λ (v : Verdict). v.states) answered.answer_is) ∙ rw is (listed_is states held).1 in
+      let rows = table_rows s.commands (start_of_create c) whole_question zero (created_length c c.source 8) table in (
+        omega (arith, count, states_few s.commands (start_of_create c) whole_question),
+        create_told s k c zero ∙ rw (answered.table_is, ← count, rows) refl,
+      )
 
 -- ---- how long the lines are: "C 63 18 2048" and "T"
 
@@ -159,7 +193,6 @@ length-type rows t few =
     omega (arith, line_length "T" (decimal t ∷ hexadecimal (union rows t) ∷ []), one_figure t few, length-hexadecimal (union rows t))
 
 length_types : (rows : List Row) (n : ℕ) → n ≤ 8 → length (types_text rows n) ≤ n * 13
-unfolding types_text
 length_types rows n few =
     omega (
       arith,
@@ -193,8 +226,8 @@ module _ (s : Scheme) (few : s.types ≤ 8) where
   length-command : (k : ℕ) (c : Command) → k < 100 → length (command_lines s k c) ≤ 117
   length-command k c small =
       by_test (is_create c)
-      (λ p. rw (its_lines s k c p []).0 (length-create k c small))
-      (λ q. rw (no_lines s k c q []).0 (omega arith))
+      (λ p. rw (its_lines s k c p) (length-create k c small))
+      (λ q. rw (no_lines s k c q) (omega arith))
 
   length-creates : (k : ℕ) (cs : List Command) → k + length cs ≤ 64 → length (create_lines s k cs) ≤ length cs * 117
   unfolding create_lines
@@ -209,23 +242,22 @@ module _ (s : Scheme) (few : s.types ≤ 8) where
 
 -- ---- a scheme without fault
 
-is_valid_lem : (s : Scheme) → scheme_number s ≡ 0 → scheme_is_valid s ≡ true
-unfolding scheme_number
-is_valid_lem s h = (simp accepted at h).0
+-- a scheme that was read keeps every command
+pub read_kept : (card : List ℕ) (l : Loaded) → scheme_card_number card ≡ 0 → l ≡ loaded_from (scheme_of card) → l.count ≤ 64
+unfolding loaded_from
+read_kept card l none is =
+    let count : l.count ≡ length (scheme_of card).commands = ap (λ (x : Loaded). x.count) is in
+    omega (arith, count, (valid_scheme (scheme_of card) (scheme_read_lem card none)).commands_few)
 
-module _ (l : Loaded) (whole : length l.commands ≡ 64) (none : scheme_number (scheme_in l) ≡ 0) where
-  pub can_tell : (k : ℕ) → k < l.count → (table : List ℕ) → 16384 ≤ length table → CanTell l k table
-  unfolding is_in_range
-  can_tell k h table room =
-      let valid = valid_scheme (scheme_in l) none in
-      record {
-        command = h;
-        few_types = valid.types_are.1;
-        askable = askable l whole (is_valid_lem (scheme_in l) none) 0 0 2048 table
-            (simp passed (((valid.types_are.0, valid.rights_are.0), (omega arith, omega arith)), room));
-      }
+module _ (l : Loaded) (none : scheme_number (scheme_in l) ≡ 0) where
+  valid : ValidScheme (scheme_in l)
+  valid = valid_scheme (scheme_in l) none
 
-  pub creates_room : length (create_lines (scheme_in l) 0 (scheme_in l).commands) ≤ 7488
-  creates_room =
-      let valid = valid_scheme (scheme_in l) none in
-      omega (arith, length-creates (scheme_in l) valid.types_are.1 0 (scheme_in l).commands (omega (arith, valid.commands_few)), valid.commands_few)
+  pub few_types : l.types ≤ 8
+  few_types = valid.types_are.1
+
+  pub few_commands : length (listed l) ≤ 64
+  few_commands = valid.commands_few
+
+  pub creates_room : length (create_lines (scheme_in l) 0 (listed l)) ≤ 7488
+  creates_room = omega (arith, length-creates (scheme_in l) valid.types_are.1 0 (listed l) (omega (arith, valid.commands_few)), valid.commands_few)

@@ -22,7 +22,7 @@ use Rattle.model.specs.Lines.{decimal, hexadecimal, line, line_x, lines_r, line_
 use Rattle.laws.proofs.Tests.{by_test}
 use Rattle.laws.proofs.Lists.{Each, those-length, length-numbers}
 use Rattle.laws.proofs.Codes.{spelling}
-use Rattle.lines.proofs.Figures.{decimal_1, decimal_2, decimal_3, length-decimal, length-hexadecimal}
+use Rattle.lines.proofs.Figures.{length-decimal, length-decimal_below, length-hexadecimal}
 
 -- ---- one line
 
@@ -42,24 +42,18 @@ unfolding line
 line_length letter words = simp (length-append) (omega (arith, length-spaced words))
 
 module _ (n : ℕ) where
-  pub one_figure : n < 10 → length (decimal n) ≡ 1
-  one_figure h = rw (decimal_1 n h)
+  pub one_figure : n < 10 → length (decimal n) ≤ 1
+  one_figure h = length-decimal_below n 1 (omega arith) h
 
   pub two_figures : n < 100 → length (decimal n) ≤ 2
-  two_figures h =
-      by_test (ltb n 10)
-      (λ p. omega (arith, one_figure (ltb-true n 10 p)))
-      (λ q. rw (decimal_2 n (ltb-false n 10 q) h) (omega arith))
+  two_figures h = length-decimal_below n 2 (omega arith) h
 
   pub three_figures : n < 1000 → length (decimal n) ≤ 3
-  three_figures h =
-      by_test (ltb n 100)
-      (λ p. omega (arith, two_figures (ltb-true n 100 p)))
-      (λ q. rw (decimal_3 n (ltb-false n 100 q) h) (omega arith))
+  three_figures h = length-decimal_below n 3 (omega arith) h
 
-pub length-line_x : (n : ℕ) → length (line_x n) ≤ 7
+pub refusal_short : (n : ℕ) → length (line_x n) ≤ 7
 unfolding line_x
-length-line_x n = omega (arith, line_length "X" (decimal n ∷ []), length-decimal n)
+refusal_short n = omega (arith, line_length "X" (decimal n ∷ []), length-decimal n)
 
 -- ---- answers: "R 255 14"
 

@@ -1,31 +1,29 @@
 -- What a batch that starts with an empty store leaves, by the outcome of its call: the text's parts, and that they have room.
 -- Assumes nothing.
 use Prim.Native.Nat.{ℕ, ◌≤◌, ◌<◌}
-use mathlib.Core.List.{List, [], ◌++◌, map}
+use mathlib.Core.List.{List, [], ◌++◌}
 use mathlib.Core.Path.{◌≡◌, refl, sym, ap, ◌∙◌}
 use native.Mathlib.Omega.{arith}
 use borrow.Author.Tests.{eqb-true, le-leb}
 use lib.Dec.{eqb}
-use lib.ListN.{length, get_or, drop, length-append, length-map}
+use lib.ListN.{length, get_or, take, drop, length-append, length-map}
 use Rattle.model.specs.declared.BatchRun.{BatchRun}
-use Rattle.model.specs.Words.{◌then◌, joined, written_over}
+use Rattle.model.specs.Words.{◌then◌, written_over}
 use Rattle.model.specs.Schemes.{Scheme, scheme_number}
 use Rattle.model.specs.Rosters.{Person, roster_of, roster_number}
 use Rattle.model.specs.Stores.{Design, no_design, store_of, store_words, is_sound, store_number}
 use Rattle.model.specs.Requests.{batch_numbers, batched, count_done}
 use Rattle.model.specs.Cards.{body, request_count, requests_of, is_batch_card, batch_card_number}
 use Rattle.model.specs.Outcomes.{Handed, has_rooms, handed_number, run_batch_number, batch_run, RunBatchOutcome}
-use Rattle.model.specs.Lines.{lines_r, lines_d, line_e, run_lines, batch_text_room}
+use Rattle.model.specs.Lines.{lines_r, line_e, run_lines, batch_text_room}
 use Rattle.laws.proofs.Tests.{by_test, accepted}
 use Rattle.laws.proofs.Lists.{Each, those-length, length-written, take-written}
 use Rattle.laws.proofs.Checks.{valid_scheme, valid_roster}
 use Rattle.laws.proofs.Stores.{store_of_words, store_words_length}
 use Rattle.laws.proofs.Requests.{numbers_length}
 use Rattle.laws.proofs.Kept.{Good, good, good_batched, whole, roster_length}
-use Rattle.stores.specs.Standing.{Stands}
 use Rattle.readers.proofs.Exits.{length-entries}
-use Rattle.texts.specs.Parts.{answers_text, designs_text, KindsFit, run_parts}
-use Rattle.texts.proofs.Lines.{designs_all}
+use Rattle.texts.specs.Parts.{designs_text, KindsFit, run_parts}
 use Rattle.texts.proofs.Lengths.{length-answers, length-designs, length-end}
 
 -- ---- a batch card's requests are few
@@ -95,80 +93,106 @@ module _ (s : Scheme) (count : ℕ) (roster store card answers : List ℕ) where
       pub ran_number : r.number ≡ batch_card_number card
       ran_number = ap (λ (x : BatchRun). x.number) o.answer_is ∙ number_of _ (batch_numbers s people (store_of store) (requests_of card)) ∙ run_number
 
-      module _ (none : r.number ≡ 0) where
-        is_zero : run_batch_number handed card answers ≡ 0
-        is_zero = run_number ∙ sym ran_number ∙ none
+pub few_people : {s : Scheme} {count : ℕ} {roster store card answers : List ℕ} → Fresh s count roster store card answers → count ≤ 32
+few_people {s} {count} {roster} fresh = omega (arith, (valid_roster s.types (roster_of count roster) fresh.roster_is).few, roster_length count roster)
 
-        few : length numbers ≤ 256
-        few = rw (numbers_length s people [] (requests_of card)) (few_requests card (sym ran_number ∙ none))
+-- what it leaves, if the card isn't refused
+pub record Left (s : Scheme) (people : List Person) (card store answers : List ℕ) (requests done : ℕ) : Type 0 where
+  pub accepted_card : batch_card_number card ≡ 0
+  pub store_wide : 2305 ≤ length store
+  pub few_designs : length (store_of store) ≤ 64
+  pub kinds_fit : KindsFit (store_of store)
+  pub requests_few : requests ≤ 256
+  pub requests_inside : requests ≤ length answers
+  pub done_few : done ≤ 256
+  pub parts_are : run_parts people (store_of store) (take requests answers) done ≡ run_lines s people (requests_of card)
+  pub room : length (run_lines s people (requests_of card)) ≤ batch_text_room
 
-        pub requests_are : r.requests ≡ length numbers
-        unfolding batch_run
-        requests_are = ap (λ (x : BatchRun). x.requests) o.answer_is ∙ rw (is_zero, no_designs) refl
+module _ {s : Scheme} {count : ℕ} {roster store card answers : List ℕ} (fresh : Fresh s count roster store card answers) {requests done : ℕ}
+    {store_exit answers_exit : List ℕ}
+    (o : RunBatchOutcome (handed s count roster store card answers) card answers (record { number = 0; requests = requests; done = done }) store_exit answers_exit) where
+  abbrev who : List Person
+  who = people s count roster store card answers
 
-        pub done_are : r.done ≡ count_done numbers
-        unfolding batch_run
-        done_are = ap (λ (x : BatchRun). x.done) o.answer_is ∙ rw (is_zero, no_designs) refl
+  abbrev told : List ℕ
+  told = numbers s count roster store card answers
 
-        store_is : store_exit ≡ store_words designs store
-        store_is = o.store_is ∙ rw (is_zero, no_designs) refl
+  abbrev kept : List Design
+  kept = designs s count roster store card answers
 
-        answers_are : answers_exit ≡ written_over numbers answers
-        answers_are = o.answers_are ∙ rw (is_zero, no_designs) refl
+  none : batch_card_number card ≡ 0
+  none = sym (ran_number s count roster store card answers fresh o)
 
-        pub designs_are : store_of store_exit ≡ designs
-        designs_are = rw store_is (store_of_words designs store (whole s people designs left_good))
+  is_zero : run_batch_number (handed s count roster store card answers) card answers ≡ 0
+  is_zero = run_number s count roster store card answers fresh ∙ none
 
-        pub stands : Stands count roster store_exit
-        stands =
-            let left = left_good in
-            let long = store_words_length designs store left.celled left.check.few (omega (arith, fresh.store_long)) in
-            record {
-              few_people = omega (arith, (valid_roster s.types people fresh.roster_is).few, roster_length count roster);
-              roster_wide = fresh.roster_wide;
-              store_wide = rw store_is (omega (arith, long, fresh.store_long));
-              few_designs = rw designs_are left.check.few;
-            }
+  nothing : store_of store ≡ []
+  nothing = no_designs s count roster store card answers fresh
 
-        pub kinds_fit : KindsFit store_exit
-        kinds_fit place l =
-            let valid = valid_scheme s fresh.scheme in
-            let inside : place < length designs = rw designs_are at l in
-            rw designs_are (omega (arith, (left_good.check.fit place inside).kind_below, valid.kinds_are))
+  few : length told ≤ 256
+  few = rw (numbers_length s who [] (requests_of card)) (few_requests card none)
 
-        pub counts : (r.requests ≤ 256) × (r.done ≤ 256) × (r.requests ≤ length answers_exit)
-        counts =
-            let long = length-written numbers answers (omega (arith, few, fresh.answers_long)) in (
-              omega (arith, requests_are, few),
-              omega (arith, done_are, few, those-length (λ n. eqb n 0) numbers),
-              rw answers_are (omega (arith, requests_are, few, long, fresh.answers_long)),
-            )
+  requests_are : requests ≡ length told
+  unfolding batch_run
+  requests_are = ap (λ (x : BatchRun). x.requests) o.answer_is ∙ rw (is_zero, nothing) refl
 
-        pub parts_are : run_parts people (store_of store_exit) answers_exit r.requests r.done ≡ run_lines s people (requests_of card)
-        unfolding run_lines line_e
-        parts_are =
-            let first : answers_text answers_exit r.requests ≡ lines_r 0 numbers = rw (answers_are, requests_are, take-written numbers answers) in
-            let second : designs_text people (store_of store_exit) (length (store_of store_exit)) ≡ joined (map (lines_d people) designs) =
-            rw designs_are (designs_all people designs) in
-            rw (first, second, requests_are, done_are)
+  done_are : done ≡ count_done told
+  unfolding batch_run
+  done_are = ap (λ (x : BatchRun). x.done) o.answer_is ∙ rw (is_zero, nothing) refl
 
-        pub run_room : length (run_lines s people (requests_of card)) ≤ batch_text_room
-        unfolding run_lines
-        run_room =
-            let valid = valid_scheme s fresh.scheme in
-            let known = valid_roster s.types people fresh.roster_is in
-            let check = left_good.check in
-            let kinds : Each (λ d. d.kind < 10) designs no_design = λ i l. omega (arith, (check.fit i l).kind_below, valid.kinds_are) in
-            let answered = lines_r 0 numbers in
-            let shown = joined (map (lines_d people) designs) in
-            omega (
-              arith,
-              length-append (answered ++ shown) (line_e numbers),
-              length-append answered shown,
-              length-answers s people [] 0 (requests_of card) (omega (arith, few, numbers_length s people [] (requests_of card))),
-              length-designs people known.spelt known.few designs check.spelt kinds,
-              check.few,
-              length-end numbers few,
-              few,
-              numbers_length s people [] (requests_of card),
-            )
+  store_is : store_exit ≡ store_words kept store
+  store_is = o.store_is ∙ rw (is_zero, nothing) refl
+
+  answers_are : answers_exit ≡ written_over told answers
+  answers_are = o.answers_are ∙ rw (is_zero, nothing) refl
+
+  kept_good : Good s who kept
+  kept_good = left_good s count roster store card answers fresh
+
+  designs_are : store_of store_exit ≡ kept
+  designs_are = rw store_is (store_of_words kept store (whole s who kept kept_good))
+
+  shown_parts : run_parts who (store_of store_exit) (take requests answers_exit) done ≡ run_lines s who (requests_of card)
+  unfolding run_lines line_e
+  shown_parts =
+      let first : take requests answers_exit ≡ told = rw (answers_are, requests_are) (take-written told answers) in
+      rw (first, designs_are, done_are)
+
+  run_room : length (run_lines s who (requests_of card)) ≤ batch_text_room
+  unfolding run_lines
+  run_room =
+      let valid = valid_scheme s fresh.scheme in
+      let known = valid_roster s.types who fresh.roster_is in
+      let check = kept_good.check in
+      let kinds : Each (λ d. d.kind < 10) kept no_design = λ i l. omega (arith, (check.fit i l).kind_below, valid.kinds_are) in
+      let answered = lines_r 0 told in
+      let shown = designs_text who kept in
+      omega (
+        arith,
+        length-append (answered ++ shown) (line_e told),
+        length-append answered shown,
+        length-answers s who [] 0 (requests_of card) (omega (arith, few, numbers_length s who [] (requests_of card))),
+        length-designs who known.spelt known.few kept check.spelt kinds,
+        check.few,
+        length-end told few,
+        few,
+        numbers_length s who [] (requests_of card),
+      )
+
+  pub left_by : Left s who card store_exit answers_exit requests done
+  left_by =
+      let long = store_words_length kept store kept_good.celled kept_good.check.few (omega (arith, fresh.store_long)) in
+      let written = length-written told answers (omega (arith, few, fresh.answers_long)) in
+      record {
+        accepted_card = none;
+        store_wide = rw store_is (omega (arith, long, fresh.store_long));
+        few_designs = rw designs_are kept_good.check.few;
+        kinds_fit = λ place l.
+            let inside : place < length kept = rw designs_are at l in
+            rw designs_are (omega (arith, (kept_good.check.fit place inside).kind_below, (valid_scheme s fresh.scheme).kinds_are));
+        requests_few = omega (arith, requests_are, few);
+        requests_inside = rw answers_are (omega (arith, requests_are, few, written, fresh.answers_long));
+        done_few = omega (arith, done_are, few, those-length (λ n. eqb n 0) told);
+        parts_are = shown_parts;
+        room = run_room;
+      }

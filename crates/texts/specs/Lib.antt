@@ -1,4 +1,3 @@
 -- The definitions that the contracts of this crate cite beside those of `model`.
 pub mod Parts
-pub mod Printing
 pub mod Creates

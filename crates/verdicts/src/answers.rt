@@ -1,122 +1,69 @@
 // The verdict from one start: 16, 17, 18, 19 and 0, in this order, and what the listed rows say.
-ghost use Rattle.std.specs.Prelude.{◌≡◌, ℕ, ◌*◌, ◌≤◌, ◌<◌, length};
-ghost use Rattle.model.specs.Words.{groups};
-ghost use Rattle.model.specs.Sizes.{row_words, most_rights};
+ghost use Rattle.std.specs.Prelude.{◌≡◌, ◌<◌};
+ghost use Rattle.model.specs.Sizes.{most_rights};
 ghost use Rattle.model.specs.Kinds.{both};
-ghost use Rattle.model.specs.Verdicts.{only, reported};
-ghost use Rattle.model.specs.Outcomes.{question_from};
+ghost use Rattle.model.specs.Answers.{judged};
+ghost use Rattle.model.specs.Verdicts.{reported};
 ghost use Rattle.schemes.specs.Loads.{listed};
-ghost use Rattle.listing.specs.Searches.{Ready};
-ghost use Rattle.verdicts.specs.Asking.{start_at, looked_up, Askable, Answered};
+ghost use Rattle.listing.specs.Tables.{rows_of};
+ghost use Rattle.verdicts.specs.Asking.{start_by, question_by, looked_up, Askable, Answered};
 
-use kinds::sets::{both_of, first_not_normal, sets_of};
-use listing::found::{first_duplicate_in, first_duplicate_row, first_holding};
-use listing::rows::{Row, row_at};
+use crate::{Question, Start};
+use kinds::sets::{first_not_normal, sets_of};
+use listing::rows::Rows;
 use listing::search::search;
-use model::Verdict;
+use model::Command;
+use model::answers::Judgement;
 use schemes::Loaded;
 
-// A number alone.
-pub fn only(number: u8) -> Verdict
-    ensures { result ≡ only number }
-{
-    Verdict {
-        number,
-        states: 0,
-        held: 0,
-        state: 0,
-        command: 0,
-    }
-}
-
-// 0: with how many states were listed, whether one of them holds the right, and the first that does.
-fn done(states: usize, held: u8, state: usize) -> Verdict
-    ensures { result ≡ record { number = 0; states = states; held = held; state = state; command = 0 } }
-{
-    Verdict {
-        number: 0,
-        states,
-        held,
-        state,
-        command: 0,
-    }
-}
-
 // 0: what the listed rows say of the right.
-fn reported(table: &[u32], rows: usize, t: usize, right: usize) -> Verdict
-    requires { (rows * row_words ≤ length table.now) × ((t < row_words) × (right < most_rights)) }
-    ensures { (budget : ℕ) → result ≡ reported (question_from t right budget) (groups row_words rows table.now) }
+fn reported(rows: &Rows, q: &Question) -> Judgement
+    requires { q.now.right < most_rights }
+    ensures { judged result ≡ reported (question_by q.now) (rows_of rows.now) }
 {
-    let state = first_holding(table, rows, t, right);
-    if rows <= state {
-        return done(rows, 0, 0);
+    Judgement::Listed {
+        states: rows.count,
+        held: rows.first_holding(q.person_type, q.right),
     }
-    done(rows, 1, state)
 }
 
 // 19 where one of the listed rows has a duplicate step, by the set of the rights that are both propagation and deletable; else 0.
-fn looked_up(
-    l: Loaded,
-    kind: usize,
-    set: u32,
-    table: &[u32],
-    rows: usize,
-    t: usize,
-    right: usize,
-) -> Verdict
-    requires { ((rows * row_words ≤ length table.now) × ((t < row_words) × (right < most_rights))) × (Ready l × (set ≡ both (listed l) kind)) }
-    ensures { (budget : ℕ) → result ≡ looked_up (listed l) kind (question_from t right budget) (groups row_words rows table.now) }
+fn looked_up(commands: &[Command], kind: usize, set: u32, rows: &Rows, q: &Question) -> Judgement
+    requires { (q.now.right < most_rights) × (set ≡ both commands.now kind) }
+    ensures { judged result ≡ looked_up commands.now kind (question_by q.now) (rows_of rows.now) }
 {
-    let state = first_duplicate_row(table, rows, kind, set, l);
-    if rows <= state {
-        return reported(table, rows, t, right);
-    }
-    Verdict {
-        number: 19,
-        states: rows,
-        held: 0,
+    let Some(state) = rows.first_duplicate(kind, set, commands) else {
+        return reported(rows, q);
+    };
+    let command = rows.row(state).first_duplicate(kind, set, commands);
+    let states = rows.count;
+    Judgement::Duplicate {
+        states,
         state,
-        command: first_duplicate_in(row_at(table, state), kind, set, l),
+        command: command.unwrap_or(0),
     }
 }
 
 // The verdict from a start. On 16 and 17 nothing is listed, and the table is left.
-pub fn verdict_from(
-    l: Loaded,
-    kind: usize,
-    start: Row,
-    overlap: bool,
-    t: usize,
-    right: usize,
-    budget: usize,
-    table: &mut [u32],
-) -> Verdict
-    requires { Askable l t right budget table.old }
-    ensures { Answered (listed l) (start_at kind start overlap) (question_from t right budget) table.old result table.new }
+pub fn verdict_from(l: &Loaded, start: Start, q: &Question, table: &mut [u32]) -> Judgement
+    requires { Askable l.now q.now table.old }
+    ensures { Answered (listed l.now) (start_by start) (question_by q.now) table.old (judged result) table.new }
 {
-    let sets = sets_of(l, kind);
-    let first = first_not_normal(l, kind, sets.propagation);
-    if first < l.count {
-        return Verdict {
-            number: 16,
-            states: 0,
-            held: 0,
-            state: 0,
-            command: first,
-        };
+    let commands = l.kept();
+    let sets = sets_of(commands, start.kind);
+    if let Some(command) = first_not_normal(commands, start.kind, sets.propagation) {
+        return Judgement::NotNormal { command };
     }
-    if overlap {
-        return only(17);
+    if start.overlap {
+        return Judgement::Overlap;
     }
-    let rows = search(l, kind, start, budget, table).rows;
-    if budget < rows {
-        return Verdict {
-            number: 18,
-            states: budget,
-            held: 0,
-            state: 0,
-            command: 0,
-        };
+    let count = search(l, start.kind, start.row, q.budget, table).rows;
+    if q.budget < count {
+        return Judgement::PastBudget { budget: q.budget };
     }
-    looked_up(l, kind, both_of(sets), table, rows, t, right)
+    let rows = Rows {
+        table: &*table,
+        count,
+    };
+    looked_up(commands, start.kind, sets.both(), &rows, q)
 }

@@ -5,3 +5,21 @@
 pub mod answers;
 pub mod calls;
 pub mod starts;
+
+use listing::rows::Row;
+
+// What is asked of a start.
+#[derive(Clone, Copy)]
+pub struct Question {
+    pub person_type: usize,
+    pub right: usize,
+    pub budget: usize,
+}
+
+// Where a listing starts: the kind, the row, and whether two people of one type overlap in it.
+#[derive(Clone, Copy)]
+pub struct Start {
+    pub kind: usize,
+    pub row: Row,
+    pub overlap: bool,
+}

@@ -1,65 +1,52 @@
 // The verdict from a create command, and from a stored design.
-ghost use Rattle.std.specs.Prelude.{◌<◌, get_or};
-ghost use Rattle.model.specs.Schemes.{command_in};
 ghost use Rattle.model.specs.Rosters.{roster_of};
-ghost use Rattle.model.specs.Stores.{no_design, store_of};
+ghost use Rattle.model.specs.Stores.{design_of};
 ghost use Rattle.model.specs.Verdicts.{start_of_create, start_of_design};
-ghost use Rattle.model.specs.Outcomes.{question_from};
+ghost use Rattle.model.specs.Answers.{judged};
 ghost use Rattle.schemes.specs.Loads.{listed};
-ghost use Rattle.stores.specs.Standing.{Placed};
-ghost use Rattle.verdicts.specs.Asking.{Askable, Answered};
+ghost use Rattle.verdicts.specs.Asking.{question_by, Askable, Answered};
 
 use crate::answers::verdict_from;
+use crate::{Question, Start};
 use kinds::overlap::overlaps;
-use kinds::sets::{both_of, sets_of};
+use kinds::sets::sets_of;
 use kinds::starts::{row_of_create, row_of_design};
-use model::Verdict;
-use schemes::{Loaded, command_of};
-use stores::kind_at;
+use model::Command;
+use model::answers::Judgement;
+use rosters::Roster;
+use schemes::Loaded;
+use stores::Design;
 
 // From a create command: no two people overlap in it.
-pub fn from_create(
-    l: Loaded,
-    command: usize,
-    t: usize,
-    right: usize,
-    budget: usize,
-    table: &mut [u32],
-) -> Verdict
-    requires { (command < l.count) × Askable l t right budget table.old }
-    ensures { Answered (listed l) (start_of_create (command_in (listed l) command)) (question_from t right budget) table.old result table.new }
+pub fn from_create(l: &Loaded, c: Command, q: &Question, table: &mut [u32]) -> Judgement
+    requires { Askable l.now q.now table.old }
+    ensures { Answered (listed l.now) (start_of_create c) (question_by q.now) table.old (judged result) table.new }
 {
-    let c = command_of(l, command);
-    verdict_from(
-        l,
-        c.kind as usize,
-        row_of_create(c),
-        false,
-        t,
-        right,
-        budget,
-        table,
-    )
+    let start = Start {
+        kind: usize::from(c.kind),
+        row: row_of_create(c),
+        overlap: false,
+    };
+    verdict_from(l, start, q, table)
 }
 
-// From the design at a place of the store.
+// From a stored design, with the roster that its cells are of.
 pub fn from_design(
-    l: Loaded,
-    roster: &[u32],
-    people: usize,
-    store: &[u32],
-    place: usize,
-    t: usize,
-    right: usize,
-    budget: usize,
+    l: &Loaded,
+    roster: &Roster,
+    design: &Design,
+    q: &Question,
     table: &mut [u32],
-) -> Verdict
-    requires { Placed people roster.now store.now place × Askable l t right budget table.old }
-    ensures { Answered (listed l) (start_of_design (listed l) (roster_of people roster.now) (get_or (store_of store.now) place no_design)) (question_from t right budget) table.old result table.new }
+) -> Judgement
+    requires { Askable l.now q.now table.old }
+    ensures { Answered (listed l.now) (start_of_design (listed l.now) (roster_of roster.now.people roster.now.words.now) (design_of design.now.words.now)) (question_by q.now) table.old (judged result) table.new }
 {
-    let kind = kind_at(store, place);
-    let set = both_of(sets_of(l, kind));
-    let overlap = overlaps(set, roster, people, store, place);
-    let start = row_of_design(roster, people, store, place);
-    verdict_from(l, kind, start, overlap, t, right, budget, table)
+    let kind = design.kind();
+    let set = sets_of(l.kept(), kind).both();
+    let start = Start {
+        kind,
+        row: row_of_design(roster, design.cells()),
+        overlap: overlaps(set, roster, design.cells()),
+    };
+    verdict_from(l, start, q, table)
 }

@@ -1,45 +1,46 @@
--- `questions::access_list`: the number decides, and with 0 the people of the named design are shown. Assumes nothing.
-use mathlib.Core.Path.{◌≡◌, refl, sym, ap, ◌∙◌}
-use native.Mathlib.Omega.{arith}
-use Rattle.model.specs.Outcomes.{Handed, access_list_number}
-use Rattle.schemes.specs.declared.Loaded.{Loaded}
-use Rattle.handed.specs.Handing.{counted_by, handed_by}
-use Rattle.questions.proofs.Asked.{Listable, listable, list_refused, list_answered}
-use Rattle.questions.proofs.access_list.Goals.{After-access_list_number-number, Else-number-ne0, Start}
+-- `questions::access_list`: the people of the named design are shown, or why there is none. Assumes nothing.
+use Rattle.std.proofs.Common.{rules, arith, refl, ◌≡◌, subst}
+use Rattle.model.specs.declared.refusal.Refusal.TheVariants.{NoRoom}
+use Rattle.model.specs.Stores.{Design, design_of, design_at}
+use Rattle.model.specs.Outcomes.{Handed, designs_in}
+use Rattle.handed.specs.Handing.{handed_by}
+use Rattle.questions.specs.Shown.{Shows}
+use Rattle.questions.proofs.Asked.{list_no_room, list_short, list_not_handed, list_named, list_refused, list_answered}
+use Rattle.questions.proofs.access_list.Goals.{Start}
 use Rattle.questions.proofs.access_list.Goals as goal
 
+-- what is handed over
 abbrev handed : Start → Handed
-handed c = handed_by (counted_by c.args.l c.args.types c.args.kinds c.args.rights) c.args.people c.args.roster.now c.args.store.now
+handed c = handed_by c.args.l.now c.args.people c.args.roster.now c.args.store.now
 
-number_is : (c : After-access_list_number-number)
-    → c.access_list_number-number.result ≡ access_list_number ((handed_by (counted_by c.args.l c.args.types c.args.kinds c.args.rights) c.args.people c.args.roster.now c.args.store.now)) c.args.code.now c.args.list.now
-number_is c =
-    let s = c.args in
-    c.access_list_number-number.ensures s.list.now refl
-    ∙ ap (λ (l : Loaded). access_list_number (handed_by l s.people s.roster.now s.store.now) s.code.now s.list.now) c.counted-s.ensures
+pub returns-in_err-rooms : goal.returns-in_err-rooms
+returns-in_err-rooms c =
+    let h = handed (goal.at.returns-in_err-rooms c).Start in
+    list_refused h c.args.code.now c.args.list.now c.from_residual.result c.in_err-rooms.field-0.0 (search rules)
+    (list_no_room h c.args.code.now c.args.list.now c.in_err-rooms.field-0.0 (search rules))
 
--- what the 0 tells
-told : (c : Else-number-ne0) → Listable ((handed_by (counted_by c.args.l c.args.types c.args.kinds c.args.rights) c.args.people c.args.roster.now c.args.store.now)) c.args.code.now c.args.list.now
-told c = listable ((handed_by (counted_by c.args.l c.args.types c.args.kinds c.args.rights) c.args.people c.args.roster.now c.args.store.now)) c.args.code.now c.args.list.now (sym ((let number_is_here : c.access_list_number-number.result ≡ access_list_number ((handed_by (counted_by c.args.l c.args.types c.args.kinds c.args.rights) c.args.people c.args.roster.now c.args.store.now)) c.args.code.now c.args.list.now = let s = c.args in c.access_list_number-number.ensures s.list.now refl ∙ ap (λ (l : Loaded). access_list_number (handed_by l s.people s.roster.now s.store.now) s.code.now s.list.now) c.counted-s.ensures in number_is_here)) ∙ c.if-number-ne0.false)
+pub returns-then-list-lt-ACCESS_ROOM : goal.returns-then-list-lt-ACCESS_ROOM
+returns-then-list-lt-ACCESS_ROOM c =
+    let h = handed (goal.at.returns-then-list-lt-ACCESS_ROOM c).Start in
+    list_refused h c.args.code.now c.args.list.now _ NoRoom refl (list_short h c.args.code.now c.args.list.now (search rules) (omega arith))
 
-pub returns-then-number-ne0 : goal.returns-then-number-ne0
-returns-then-number-ne0 c = list_refused (handed (goal.at.returns-then-number-ne0 c).Start) c.args.code.now c.args.list.now c.access_list_number-number.result (number_is (goal.at.returns-then-number-ne0 c).After-access_list_number-number) c.if-number-ne0.true
+pub returns-in_err-handed : goal.returns-in_err-handed
+returns-in_err-handed c =
+    let h = handed (goal.at.returns-in_err-handed c).Start in
+    list_refused h c.args.code.now c.args.list.now c.from_residual-in_err-handed.result c.in_err-handed.field-0.0 (search rules)
+    (list_not_handed h c.args.code.now c.args.list.now (search rules) (omega arith) c.in_err-handed.field-0.0 (search rules))
 
-pub place_named-place-requires : goal.place_named-place-requires
-place_named-place-requires c = let t = told c in (t.size.store_wide, t.size.designs, t.spelt)
-
-pub show-shown-requires : goal.show-shown-requires
-show-shown-requires c =
-    let t = told (goal.at.show-shown-requires c).Else-number-ne0 in
-    record {
-      room = t.size.store_wide;
-      few = t.size.designs;
-      there = omega (arith, t.place_there, c.place_named-place.ensures);
-      most = t.size.people;
-      list_room = t.room;
-    }
+pub returns-in_err-design : goal.returns-in_err-design
+returns-in_err-design c =
+    let h = handed (goal.at.returns-in_err-design c).Start in
+    list_refused h c.args.code.now c.args.list.now c.from_residual-in_err-design.result c.in_err-design.field-0.0 (search rules)
+    (list_named h c.args.code.now c.args.list.now (search rules) (omega arith) (search rules) _ (search rules))
 
 pub returns : goal.returns
 returns c =
-    list_answered (handed (goal.at.returns c).Start) c.args.code.now c.args.list.now c.access_list_number-number.result (number_is (goal.at.returns c).After-access_list_number-number) c.if-number-ne0.false
-    c.place_named-place.result c.place_named-place.ensures c.show-shown.result _ c.show-shown.ensures
+    let h = handed (goal.at.returns c).Start in
+    let there : design_of c.in_ok-design.design.words.now ≡ design_at c.args.code.now (designs_in h) = search rules in
+    list_answered h c.args.code.now c.args.list.now
+    (list_named h c.args.code.now c.args.list.now (search rules) (omega arith) (search rules) 0 (search rules))
+    c.show.result _
+    (subst (λ (d : Design). Shows c.args.people d.cells c.args.list.now c.show.result c.show.new.list) there (rw (← c.cells.ensures) c.show.ensures))

@@ -1,40 +1,30 @@
--- `requests::answered` meets its contract: a refused request leaves the words, and one that is answered 0 is carried out.
+-- `requests::answered` meets its contract: a refused request leaves the words, and one that may be carried out is.
 -- Assumes nothing.
-use mathlib.Core.Path.{◌≡◌}
-use native.Mathlib.Omega.{arith}
 use borrow.Author.Rules.{rules}
-use lib.ListN.{length}
-use Rattle.schemes.specs.Loads.{listed}
-use Rattle.schemes.proofs.Loads.{listed-length}
+use Rattle.std.specs.Prelude.{◌≡◌, Err}
+use Rattle.model.specs.declared.refusal.Refusal.TheVariants.{NoCommand}
 use Rattle.handed.proofs.Numbers.{sized}
-use Rattle.requests.proofs.Answering.{stands, none_named, command_refuses, allowed, done}
-use Rattle.requests.proofs.answered.Goals.{Start}
+use Rattle.requests.proofs.Answering.{refused, unnamed, command_refuses, allowed, done}
 use Rattle.requests.proofs.answered.Goals as goal
 
--- the commands that the scheme stands for are as many as were counted
-counted : (c : Start) → length (listed c.args.l) ≡ c.args.l.count
-counted c = listed-length c.args.l (search rules)
+pub command-requires : goal.command-requires
+command-requires c = (sized _ c.requires).commands
 
-pub returns-then-l-command : goal.returns-then-l-command
-returns-then-l-command c = none_named _ _ c.requires (λ i. search rules) (omega (arith, counted (goal.at.returns-then-l-command c).Start))
+pub returns-in_default : goal.returns-in_default
+returns-in_default c =
+    refused _ _ c.requires (λ i. search rules) NoCommand (unnamed _ _ c.requires (λ i. search rules) _ c.command.ensures c.in_default.is)
 
-pub command_of-c-requires : goal.command_of-c-requires
-command_of-c-requires c = (search rules, omega (arith, counted (goal.at.command_of-c-requires c).Start, (sized _ c.requires).commands))
+pub invariant_of-command_allowed : goal.invariant_of-command_allowed
+invariant_of-command_allowed c = let sizes = sized _ c.requires in record { wide = sizes.store_wide; few = sizes.designs }
 
-pub command_number-answer-requires : goal.command_number-answer-requires
-command_number-answer-requires c = stands _ c.requires
-
-pub returns-then-answer-ne0 : goal.returns-then-answer-ne0
-returns-then-answer-ne0 c =
-    command_refuses _ _ c.requires (λ i. search rules) (omega (arith, counted (goal.at.returns-then-answer-ne0 c).Start)) _ c.command_of-c.ensures _
-    c.command_number-answer.ensures c.if-answer-ne0.true
+pub returns-in_err-command_allowed : goal.returns-in_err-command_allowed
+returns-in_err-command_allowed c =
+    let why = c.in_err-command_allowed.field-0.0 in
+    let is : c.from_residual.result ≡ Err why = search rules in
+    rw is (command_refuses _ _ c.requires (λ i. search rules) _ c.command.ensures _ c.in-Some.is why (search rules))
 
 pub carry_out-requires : goal.carry_out-requires
-carry_out-requires c =
-    allowed _ _ c.requires (λ i. search rules) (omega (arith, counted (goal.at.carry_out-requires c).Start)) _ c.command_of-c.ensures _
-    c.command_number-answer.ensures c.if-answer-ne0.false
+carry_out-requires c = allowed _ _ c.requires (λ i. search rules) _ c.command.ensures _ c.in-Some.is (search rules)
 
 pub returns : goal.returns
-returns c =
-    done _ _ c.requires (λ i. search rules) (omega (arith, counted (goal.at.returns c).Start)) _ c.command_of-c.ensures _
-    c.command_number-answer.ensures c.if-answer-ne0.false _ c.carry_out.ensures
+returns c = done _ _ c.requires (λ i. search rules) _ c.command.ensures _ c.in-Some.is (search rules) _ c.carry_out.ensures

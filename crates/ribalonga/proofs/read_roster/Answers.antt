@@ -7,5 +7,7 @@ use Rattle.ribalonga.proofs.read_roster.Goals as goal
 pub returns : goal.returns
 returns c =
     let a = c.args in
-    read_roster_as_one _ (scheme_from a.commands.now a.types a.kinds a.rights) (loaded_as_one c.load-l.result a.commands.now c.load-l.ensures a.types a.kinds a.rights)
-    a.card.now a.roster.now _ _ c.read_roster.ensures
+    let one = loaded_as_one c.load.result a.commands.now a.types a.kinds a.rights c.load.ensures in
+    rw c.into.ensures
+    (read_roster_as_one _ (scheme_from a.commands.now a.types a.kinds a.rights) one
+    a.card.now a.roster.now _ _ c.read_roster.ensures)

@@ -7,5 +7,7 @@ use Rattle.ribalonga.proofs.request.Goals as goal
 pub returns : goal.returns
 returns c =
     let a = c.args in
-    request_as_one _ (scheme_from a.commands.now a.types a.kinds a.rights) (loaded_as_one c.load-l.result a.commands.now c.load-l.ensures a.types a.kinds a.rights)
-    a.roster.now a.people a.store.now (request_from a.command a.source a.destination a.code.now) _ _ c.request.ensures
+    let one = loaded_as_one c.load-l.result a.commands.now a.types a.kinds a.rights c.load-l.ensures in
+    rw c.number_given.ensures
+    (request_as_one _ (scheme_from a.commands.now a.types a.kinds a.rights) one
+    a.roster.now a.people a.store.now (request_from a.command a.source a.destination a.code.now) _ _ c.request.ensures)

@@ -7,5 +7,7 @@ use Rattle.ribalonga.proofs.run_batch.Goals as goal
 pub returns : goal.returns
 returns c =
     let a = c.args in
-    run_batch_as_one _ (scheme_from a.commands.now a.types a.kinds a.rights) (loaded_as_one c.load-l.result a.commands.now c.load-l.ensures a.types a.kinds a.rights)
-    a.roster.now a.people a.store.now a.card.now a.answers.now _ _ _ c.run_batch.ensures
+    let one = loaded_as_one c.load-l.result a.commands.now a.types a.kinds a.rights c.load-l.ensures in
+    rw c.into.ensures
+    (run_batch_as_one _ (scheme_from a.commands.now a.types a.kinds a.rights) one
+    a.roster.now a.people a.store.now a.card.now a.answers.now _ _ _ c.run_batch.ensures)

@@ -5,36 +5,32 @@ use mathlib.Core.Path.{◌≡◌, sym, ◌∙◌}
 use native.Mathlib.Omega.{arith}
 use Rattle.model.specs.Rosters.{roster_of}
 use Rattle.rosters.proofs.People.{length-roster}
-use Rattle.kinds.specs.Designs.{cells_at}
 use Rattle.kinds.proofs.People.{rights_of_none, rights_of_all, rights_of_one, rights_of_others}
 use Rattle.kinds.proofs.starts.of_type.Goals as goal
 
 pub loop-p-init : goal.loop-p-init
 loop-p-init c =
-    let a = c.args in
-    let people = roster_of a.people a.roster.now in
-    (omega arith, sym (rights_of_none people (cells_at a.store.now a.place) a.t a.people (omega (arith, length-roster a.people a.roster.now))))
+    let r = c.args.roster.now in
+    (omega arith, sym (rights_of_none (roster_of r.people r.words.now) c.args.cells.now c.args.t r.people (omega (arith, length-roster r.people r.words.now))))
 
 pub loop-p-preserved-then-type_at-t : goal.loop-p-preserved-then-type_at-t
 loop-p-preserved-then-type_at-t c =
-    let a = c.args in
-    let people = roster_of a.people a.roster.now in
-    let cells = cells_at a.store.now a.place in
+    let r = c.args.roster.now in
+    let people = roster_of r.people r.words.now in
     let i = c.loop-p.p - 1 in
     let next : suc i ≡ c.loop-p.p = omega arith in
-    let type_is = sym (c.type_at.ensures a.people (omega arith)) ∙ c.if-type_at-t.true in
-    let one = rights_of_one people cells a.t i (omega (arith, length-roster a.people a.roster.now)) type_is in
-    (omega arith, c.with_those-set.ensures ∙ rw (one, c.cell_at.ensures, next, c.loop-p.invariant.1))
+    let type_is = sym (c.type_at.ensures r.people (omega arith)) ∙ c.if-type_at-t.true in
+    let one = rights_of_one people c.args.cells.now c.args.t i (omega (arith, length-roster r.people r.words.now)) type_is in
+    (omega arith, c.with_those-set.ensures ∙ rw (one, next, c.loop-p.invariant.1))
 
 pub loop-p-preserved : goal.loop-p-preserved
 loop-p-preserved c =
-    let a = c.args in
-    let people = roster_of a.people a.roster.now in
-    let cells = cells_at a.store.now a.place in
+    let r = c.args.roster.now in
+    let people = roster_of r.people r.words.now in
     let i = c.loop-p.p - 1 in
     let next : suc i ≡ c.loop-p.p = omega arith in
-    let type_is = c.type_at.ensures a.people (omega arith) in
-    let others = rights_of_others people cells a.t i (omega (arith, length-roster a.people a.roster.now)) (λ e. c.if-type_at-t.false (type_is ∙ e)) in
+    let type_is = c.type_at.ensures r.people (omega arith) in
+    let others = rights_of_others people c.args.cells.now c.args.t i (omega (arith, length-roster r.people r.words.now)) (λ e. c.if-type_at-t.false (type_is ∙ e)) in
     (omega arith, c.loop-p.invariant.1 ∙ rw (others, next))
 
 pub returns : goal.returns

@@ -1,52 +1,52 @@
 -- `requests::batch::run_batch` meets its contract: the tests are the definition's, in its order, and then the card's requests are answered.
 -- Assumes nothing.
-use mathlib.Core.Path.{sym, ◌∙◌}
-use Rattle.model.specs.Outcomes.{Handed}
-use Rattle.schemes.specs.declared.Loaded.{Loaded}
-use Rattle.handed.specs.Handing.{handed_by}
-use Rattle.handed.proofs.Numbers.{rooms, is_accepted}
-use Rattle.requests.proofs.Exits.{no_rooms, answers_short, no_batch, not_accepted, all_done}
-use Rattle.requests.proofs.batch.run_batch.Goals.{Start}
+use mathlib.Core.Path.{◌≡◌, sym}
+use native.Mathlib.Omega.{arith}
+use borrow.Author.Rules.{rules}
+use lib.Seq.{length-take-le}
+use Rattle.std.specs.Prelude.{Err}
+use Rattle.requests.proofs.Answering.{accepts}
+use Rattle.requests.proofs.Exits.{few, sized, filled, no_rooms, answers_short, no_batch, not_accepted, all_done}
 use Rattle.requests.proofs.batch.run_batch.Goals as goal
 
--- what is handed over with a scheme
-abbrev handed : Start → Loaded → Handed
-handed c l = handed_by l c.args.people c.args.roster.now c.args.store.now
-
-pub returns-then-not-has_rooms : goal.returns-then-not-has_rooms
-returns-then-not-has_rooms c = rw c.refused.ensures (no_rooms _ _ _ _ (c.has_rooms.ensures _ _) c.if-not-has_rooms.true-raw)
+pub returns-in_err-rooms : goal.returns-in_err-rooms
+returns-in_err-rooms c =
+    let is : c.from_residual.result ≡ Err c.in_err-rooms.field-0.0 = search rules in
+    rw is (no_rooms _ _ _ _ (search rules))
 
 pub returns-then-answers-lt-MOST_REQUESTS : goal.returns-then-answers-lt-MOST_REQUESTS
-returns-then-answers-lt-MOST_REQUESTS c = rw c.refused-then-answers-lt-MOST_REQUESTS.ensures (answers_short _ _ _ _ (c.has_rooms.ensures _ _) c.if-not-has_rooms.false-raw c.if-answers-lt-MOST_REQUESTS.true)
+returns-then-answers-lt-MOST_REQUESTS c = answers_short _ _ _ (search rules) c.if-answers-lt-MOST_REQUESTS.true
 
-pub returns-then-not-is_batch_card : goal.returns-then-not-is_batch_card
-returns-then-not-is_batch_card c =
-    rw c.refused-then-not-is_batch_card.ensures
-    (no_batch _ _ _ _ (c.has_rooms.ensures _ _) c.if-not-has_rooms.false-raw c.if-answers-lt-MOST_REQUESTS.false _ c.is_batch_card.ensures
-    c.if-not-is_batch_card.true-raw)
+pub returns-in_default : goal.returns-in_default
+returns-in_default c = no_batch _ _ _ (search rules) c.if-answers-lt-MOST_REQUESTS.false c.in_default.ensures
 
-pub handed_number-number-requires : goal.handed_number-number-requires
-handed_number-number-requires c = rooms (handed (goal.at.handed_number-number-requires c).Start c.counted-scheme.result) (sym (c.has_rooms.ensures _ _) ∙ c.if-not-has_rooms.false)
+pub returns-in_err-accept : goal.returns-in_err-accept
+returns-in_err-accept c =
+    let is : c.from_residual-in_err-accept.result ≡ Err c.in_err-accept.field-0.0 = search rules in
+    rw is (not_accepted _ _ _ (search rules) c.if-answers-lt-MOST_REQUESTS.false c.in-Some.ensures.0 _ (search rules))
 
-pub returns-then-number-ne0 : goal.returns-then-number-ne0
-returns-then-number-ne0 c =
-    rw c.refused-then-number-ne0.ensures (rw c.counted-scheme.ensures at
-    (not_accepted (handed (goal.at.returns-then-number-ne0 c).Start c.counted-scheme.result) c.args.card.now c.args.answers.now _ (c.has_rooms.ensures _ _)
-    c.if-not-has_rooms.false-raw c.if-answers-lt-MOST_REQUESTS.false _ c.is_batch_card.ensures c.if-not-is_batch_card.false-raw _
-    c.handed_number-number.ensures c.if-number-ne0.true))
+pub slice_bounds-answer_all-end : goal.slice_bounds-answer_all-end
+slice_bounds-answer_all-end c =
+    let (card, (count, rest)) = c.in-Some.ensures in
+    let wide = c.if-answers-lt-MOST_REQUESTS.false in
+    omega (arith, wide, few _ _ wide card _ count _ rest)
 
-pub answer_card-requires : goal.answer_card-requires
-answer_card-requires c = (
-  is_accepted (handed (goal.at.answer_card-requires c).Start c.counted-scheme.result) _ (c.has_rooms.ensures _ _) c.if-not-has_rooms.false-raw _ c.handed_number-number.ensures
-      c.if-number-ne0.false,
-  sym c.is_batch_card.ensures ∙ c.if-not-is_batch_card.false,
-  c.if-answers-lt-MOST_REQUESTS.false,
-)
+pub slice_bounds-answer_all-end-2 : goal.slice_bounds-answer_all-end-2
+slice_bounds-answer_all-end-2 c =
+    let (card, (count, rest)) = c.in-Some.ensures in
+    let wide = c.if-answers-lt-MOST_REQUESTS.false in
+    sym (length-take-le _ _ (omega (arith, wide, few _ _ wide card _ count _ rest)))
+
+pub answer_all-done-requires : goal.answer_all-done-requires
+answer_all-done-requires c =
+    let (card, (count, rest)) = c.in-Some.ensures in
+    let wide = c.if-answers-lt-MOST_REQUESTS.false in (
+      accepts _ (search rules) (search rules),
+      filled _ _ wide card _ count _ rest,
+      omega (arith, sized _ _ wide card _ count _ rest, few _ _ wide card _ count _ rest),
+    )
 
 pub returns : goal.returns
 returns c =
-    rw c.counted-scheme.ensures at
-    (all_done (handed (goal.at.returns c).Start c.counted-scheme.result) c.args.card.now c.args.answers.now _ (c.has_rooms.ensures _ _)
-    c.if-not-has_rooms.false-raw c.if-answers-lt-MOST_REQUESTS.false _ c.is_batch_card.ensures c.if-not-is_batch_card.false-raw _
-    c.handed_number-number.ensures c.if-number-ne0.false _ _ _
-    c.answer_card.ensures)
+    let (card, (count, rest)) = c.in-Some.ensures in
+    all_done _ _ _ (search rules) c.if-answers-lt-MOST_REQUESTS.false card _ count _ rest (search rules) _ _ _ c.answer_all-done.ensures

@@ -1,10 +1,7 @@
-use Prim.Native.Nat.{◌-◌, ◌≤◌}
-use Rattle.lines.specs.Lines.{Put}
-use Rattle.texts.specs.Parts.{answers_text}
+use lib.ListN.{drop}
+use Rattle.model.specs.Lines.{lines_r}
+use Rattle.texts.proofs.Growing.{Growing}
 use Rattle.texts.proofs.parts.put_answers.Given as goal
 
 abbrev pub invariant-loop-i : goal.invariant-loop-i
-invariant-loop-i l = (l.i ≤ l.n) × Put (answers_text l.answers l.i) l.at l.initial.text l.end l.text
-
-abbrev pub decreases-loop-i : goal.decreases-loop-i
-decreases-loop-i l = l.n - l.i
+invariant-loop-i l = Growing (lines_r 0 l.answers) l.at l.initial.text (lines_r l.i (drop l.i l.answers)) l.end l.text

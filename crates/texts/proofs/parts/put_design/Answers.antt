@@ -1,55 +1,35 @@
 -- `texts::parts::put_design` meets its contract: the design's own line, then its access list. Assumes nothing.
-use Prim.Native.Nat.{◌+◌, ◌≤◌}
-use mathlib.Core.Path.{ap}
-use mathlib.Core.List.{[], ◌∷◌}
-use native.Mathlib.Omega.{arith}
-use lib.ListN.{length, length-append}
-use Rattle.model.specs.Rosters.{roster_of}
-use Rattle.model.specs.Lines.{decimal, line}
-use Rattle.laws.proofs.Kept.{roster_length}
-use Rattle.stores.specs.Standing.{design_in}
-use Rattle.lines.specs.Lines.{Says}
-use Rattle.lines.proofs.Texts.{put-put, put_said, put_length, line_room}
+use Rattle.model.specs.Lines.{lines_d}
+use Rattle.lines.proofs.Texts.{put_said, line_room}
+use Rattle.texts.specs.Parts.{people_in, design_in}
+use Rattle.texts.proofs.Growing.{Growing, none_put, part_room, part_put, last_room, last_put}
+use Rattle.texts.proofs.Lines.{design_text, design_lines, design_said}
+use mathlib.Core.Path.{◌≡◌, refl}
 use Rattle.texts.specs.Parts.{access_text}
-use Rattle.texts.proofs.Lines.{design_lines, design_said}
-use Rattle.texts.proofs.parts.put_design.Goals.{After-line_d, Start}
+use Rattle.texts.proofs.parts.put_design.Goals.{After-line_d, After-put-end, Start}
 use Rattle.texts.proofs.parts.put_design.Goals as goal
 
 -- the line that is built is the design's
-said : (c : After-line_d)
-    → let a = c.args in
-    let d = design_in a.store.now a.place in
-    Says c.line_d.result (line "D" (d.code ∷ decimal d.kind ∷ []))
-said c =
-    let a = c.args in
-    design_said _ _ (design_in a.store.now a.place) c.line_d.ensures c.code_at-code.ensures c.kind_at-kind.ensures
-
--- both parts have room
-rooms : (c : Start)
-    → let a = c.args in
-    let d = design_in a.store.now a.place in
-    a.at + length (line "D" (d.code ∷ decimal d.kind ∷ [])) + length (access_text (roster_of a.people a.roster.now) d.cells a.people) ≤ length a.text.now
-rooms c =
-    let a = c.args in
-    let d = design_in a.store.now a.place in
-    let people = roster_of a.people a.roster.now in
-    omega (
-      arith,
-      c.requires.2,
-      ap length (design_lines people d a.people (roster_length a.people a.roster.now)),
-      length-append (line "D" (d.code ∷ decimal d.kind ∷ [])) (access_text people d.cells a.people),
-    )
+said : (c : After-line_d) → c.line_d.result ≡ design_text (design_in c.args.design.now)
+said c = design_said (design_in c.args.design.now) c.line_d.ensures c.code.ensures c.kind.ensures
 
 pub put-end-requires : goal.put-end-requires
-put-end-requires c = line_room (said c) c.args.at c.args.text.now (omega (arith, rooms (goal.at.put-end-requires c).Start))
+put-end-requires c =
+    let a = c.args in
+    line_room (said c) a.at a.text.now (part_room (none_put _ _ _ c.requires.1) _ _ (design_lines (people_in a.roster.now) (design_in a.design.now)))
+
+-- the access list is left
+left : (c : After-put-end)
+    → let a = c.args in
+    let people = people_in a.roster.now in
+    let d = design_in a.design.now in
+    Growing (lines_d people d) a.at a.text.now (access_text people d.cells) c.put-end.result c.put-end.new.text
+left c =
+    let a = c.args in
+    part_put (none_put _ _ _ c.requires.1) _ _ (design_lines (people_in a.roster.now) (design_in a.design.now)) (put_said c.put-end.ensures (design_said (design_in a.design.now) c.line_d.ensures c.code.ensures c.kind.ensures))
 
 pub put_access-requires : goal.put_access-requires
-put_access-requires c =
-    let line-put = put_said c.put-end.ensures (said (goal.at.put_access-requires c).After-line_d).says in
-    (c.requires.0, omega (arith, rooms (goal.at.put_access-requires c).Start, line-put.ends, put_length line-put))
+put_access-requires c = last_room (left (goal.at.put_access-requires c).After-put-end) _ refl
 
 pub returns : goal.returns
-returns c =
-    let a = c.args in
-    rw (design_lines (roster_of a.people a.roster.now) (design_in a.store.now a.place) a.people (roster_length a.people a.roster.now))
-    (put-put (put_said c.put-end.ensures (said (goal.at.returns c).After-line_d).says) c.put_access.ensures)
+returns c = last_put (left (goal.at.returns c).After-put-end) _ refl c.put_access.ensures

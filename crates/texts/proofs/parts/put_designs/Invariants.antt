@@ -1,14 +1,10 @@
-use Prim.Native.Nat.{◌-◌, ◌≤◌}
-use mathlib.Core.Path.{◌≡◌}
-use lib.ListN.{length}
-use Rattle.model.specs.Rosters.{roster_of}
-use Rattle.model.specs.Stores.{store_of}
-use Rattle.lines.specs.Lines.{Put}
-use Rattle.texts.specs.Parts.{designs_text}
+use lib.ListN.{drop}
+use Rattle.texts.specs.Parts.{people_in, designs_in, designs_text}
+use Rattle.texts.proofs.Growing.{Growing}
 use Rattle.texts.proofs.parts.put_designs.Given as goal
 
 abbrev pub invariant-loop-place : goal.invariant-loop-place
-invariant-loop-place l = (l.n ≡ length (store_of l.store)) × (l.place ≤ l.n) × Put (designs_text (roster_of l.people l.roster) (store_of l.store) l.place) l.at l.initial.text l.end l.text
-
-abbrev pub decreases-loop-place : goal.decreases-loop-place
-decreases-loop-place l = l.n - l.place
+invariant-loop-place l =
+    let people = people_in l.roster in
+    let designs = designs_in l.store in
+    Growing (designs_text people designs) l.at l.initial.text (designs_text people (drop l.place designs)) l.end l.text

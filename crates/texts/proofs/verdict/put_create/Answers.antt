@@ -1,68 +1,67 @@
 -- `texts::verdict::put_create` meets its contract: the create's own line, then with 0 those of the types, for the rows that the call left in the table.
 -- Assumes nothing.
-use mathlib.Core.Path.{sym, ap}
+use mathlib.Core.Path.{refl}
 use native.Mathlib.Omega.{arith}
-use lib.ListN.{length, length-append}
-use Rattle.model.specs.Schemes.{command_at}
-use Rattle.schemes.specs.Loads.{scheme_in}
-use Rattle.lines.specs.Lines.{Says}
-use Rattle.lines.proofs.Texts.{put-put, put_said, put_length, line_room}
-use Rattle.texts.proofs.Creates.{own_text, their_text, own_room, few_states, own_said, is_alone, is_told, their_rows}
-use borrow.Author.Rules.{rules}
-use Rattle.texts.proofs.verdict.put_create.Goals.{After-line_c}
+use Rattle.model.specs.Answers.{judged}
+use Rattle.model.specs.Verdicts.{start_of_create}
+use Rattle.model.specs.Lines.{whole_question}
+use Rattle.schemes.specs.Loads.{listed, scheme_in}
+use Rattle.verdicts.specs.Asking.{Answered}
+use Rattle.lines.proofs.Texts.{put_said, line_room}
+use Rattle.texts.proofs.Growing.{none_put, part_put, last_room, last_put}
+use Rattle.texts.proofs.Creates.{own_room, few_number, few_states, own_said, is_alone, is_told}
+use Rattle.texts.proofs.verdict.put_create.Goals.{After-from_create-judgement}
 use Rattle.texts.proofs.verdict.put_create.Goals as goal
 
--- the line that is built is the create's own
-said : (c : After-line_c)
-    → Says c.line_c.result (own_text ((scheme_in c.args.l)) c.args.k (command_at ((scheme_in c.args.l)) c.args.k))
-said c = own_said ((scheme_in c.args.l)) c.args.k (command_at ((scheme_in c.args.l)) c.args.k) c.from_create-v.ensures c.line_c.ensures
+-- the verdict from the create at every state there can be
+is_answered : (c : After-from_create-judgement)
+    → let a = c.args in
+    Answered (listed a.l.now) (start_of_create a.c) whole_question a.table.now (judged c.from_create-judgement.result) c.from_create-judgement.new.table
+is_answered c = c.from_create-judgement.ensures
 
 pub line_c-requires : goal.line_c-requires
-line_c-requires c = (
-  omega (arith, c.requires.0.command, c.requires.0.askable.ready.kept),
-  search rules,
-  omega (arith, few_states ((scheme_in c.args.l)) c.args.k (command_at ((scheme_in c.args.l)) c.args.k) c.from_create-v.ensures),
-)
+line_c-requires c =
+    let a = c.args in
+    let answered = is_answered (goal.at.line_c-requires c).After-from_create-judgement in (
+      omega arith,
+      omega (arith, c.from.ensures, few_number (scheme_in a.l.now) a.k a.c _ answered c.from-verdict.ensures),
+      omega (arith, few_states (scheme_in a.l.now) a.k a.c _ answered c.from-verdict.ensures),
+    )
 
 pub put-end-requires : goal.put-end-requires
 put-end-requires c =
     let a = c.args in
-    line_room (said c) a.at a.text.now (omega (arith, own_room ((scheme_in c.args.l)) a.k (command_at ((scheme_in c.args.l)) a.k), c.requires.1))
+    let said = own_said (scheme_in a.l.now) a.k a.c _ (is_answered (goal.at.put-end-requires c).After-from_create-judgement) c.from-verdict.ensures c.from.ensures c.line_c.ensures in
+    line_room said a.at a.text.now (omega (arith, own_room (scheme_in a.l.now) a.k a.c, c.requires))
 
-pub returns-then-v-ne0 : goal.returns-then-v-ne0
-returns-then-v-ne0 c =
-    let a = c.args in (
-      rw (is_alone ((scheme_in c.args.l)) a.k (command_at ((scheme_in c.args.l)) a.k) c.from_create-v.ensures c.if-v-ne0.true)
-          (put_said c.put-end.ensures (said (goal.at.returns-then-v-ne0 c).After-line_c).says),
-      c.from_create-v.ensures.table_is,
-    )
+pub invariant_of-rows : goal.invariant_of-rows
+invariant_of-rows c =
+    let a = c.args in
+    let told = is_told (scheme_in a.l.now) a.k a.c _ (is_answered (goal.at.invariant_of-rows c).After-from_create-judgement) c.in-Listed.is in
+    record { whole = omega (arith, told.0, c.requires.2.room.wide, c.from_create-judgement.auto.table) }
 
 pub put_types-requires : goal.put_types-requires
 put_types-requires c =
-    let k = c.args.k in
-    let create = command_at ((scheme_in c.args.l)) k in
-    let answered = c.from_create-v.ensures in
-    let own = put_said c.put-end.ensures (said (goal.at.put_types-requires c).After-line_c).says in (
-      omega (arith, few_states ((scheme_in c.args.l)) k create answered, c.requires.0.askable.room.wide, c.from_create-v.auto.table),
-      c.requires.0.few_types,
-      rw (← their_rows ((scheme_in c.args.l)) k create answered c.if-v-ne0.false)
-          (omega (
-            arith,
-            c.requires.1,
-            ap length (is_told ((scheme_in c.args.l)) k create answered c.if-v-ne0.false),
-            length-append (own_text ((scheme_in c.args.l)) k create) (their_text ((scheme_in c.args.l)) k create),
-            own.ends,
-            put_length own,
-          )),
-    )
+    let a = c.args in
+    let s = scheme_in a.l.now in
+    let answered = is_answered (goal.at.put_types-requires c).After-from_create-judgement in
+    let said = own_said s a.k a.c _ answered c.from-verdict.ensures c.from.ensures c.line_c.ensures in
+    let told = (is_told s a.k a.c _ answered c.in-Listed.is).1 in
+    (c.requires.1, last_room (part_put (none_put _ _ _ c.requires.3) _ _ told (put_said c.put-end.ensures said)) _ refl)
 
-pub returns : goal.returns
-returns c =
-    let k = c.args.k in
-    let create = command_at ((scheme_in c.args.l)) k in
-    let answered = c.from_create-v.ensures in (
-      rw (is_told ((scheme_in c.args.l)) k create answered c.if-v-ne0.false)
-          (put-put (put_said c.put-end.ensures (said (goal.at.returns c).After-line_c).says)
-          (put_said c.put_types.ensures (sym (their_rows ((scheme_in c.args.l)) k create answered c.if-v-ne0.false)))),
-      answered.table_is,
-    )
+pub returns-in-Listed-clause-lines : goal.returns-in-Listed-clause-lines
+returns-in-Listed-clause-lines c =
+    let a = c.args in
+    let s = scheme_in a.l.now in
+    let answered = is_answered (goal.at.returns-in-Listed-clause-lines c).After-from_create-judgement in
+    let said = own_said s a.k a.c _ answered c.from-verdict.ensures c.from.ensures c.line_c.ensures in
+    let told = (is_told s a.k a.c _ answered c.in-Listed.is).1 in
+    last_put (part_put (none_put _ _ _ c.requires.3) _ _ told (put_said c.put-end.ensures said)) _ refl c.put_types.ensures
+
+pub returns-in_default : goal.returns-in_default
+returns-in_default c =
+    let a = c.args in
+    let s = scheme_in a.l.now in
+    let answered = is_answered (goal.at.returns-in_default c).After-from_create-judgement in
+    let said = own_said s a.k a.c _ answered c.from-verdict.ensures c.from.ensures c.line_c.ensures in
+    record { lines = rw (is_alone s a.k a.c _ answered c.in_default.not-Listed) (put_said c.put-end.ensures said); table = answered.table_is }

@@ -1,25 +1,32 @@
--- `verdicts::answers::looked_up` meets its contract: the place of the first row with a duplicate step tells whether one has it.
+-- `verdicts::answers::looked_up` meets its contract: the first row with a duplicate step, and the first command that is one there.
 -- Assumes nothing.
-use mathlib.Core.List.{[]}
-use mathlib.Core.Path.{sym, ◌∙◌}
-use Rattle.model.specs.Words.{groups}
-use Rattle.model.specs.Outcomes.{question_from}
-use Rattle.laws.proofs.Lists.{length-groups, groups_at}
-use Rattle.schemes.specs.Loads.{listed}
-use Rattle.verdicts.proofs.Exits.{no_duplicate, one_duplicate}
+use Rattle.std.proofs.Common.{rules, arith, ◌≡◌, ◌∙◌, refl, sym, Some, [], slice_index_or}
+use Rattle.model.specs.Listing.{first_duplicate, has_duplicate}
+use Rattle.laws.proofs.Lists.{length-groups}
+use Rattle.listing.specs.Tables.{rows_of}
+use Rattle.verdicts.specs.Asking.{question_by}
+use Rattle.verdicts.proofs.Exits.{found_within, found_passes, no_duplicate, one_duplicate}
 use Rattle.verdicts.proofs.answers.looked_up.Goals as goal
 
-pub returns-then-rows-state : goal.returns-then-rows-state
-returns-then-rows-state c budget =
+pub returns-in_default : goal.returns-in_default
+returns-in_default c =
     let a = c.args in
-    c.reported.ensures budget
-    ∙ no_duplicate (listed a.l) a.kind a.set c.requires.1.1 (question_from a.t a.right budget) (groups 8 a.rows a.table.now) a.rows _
-    (sym (length-groups 8 a.rows a.table.now)) c.first_duplicate_row-state.ensures c.if-rows-state.true
+    c.reported.ensures
+    ∙ no_duplicate a.commands.now a.kind a.set c.requires.1 (question_by a.q.now) (rows_of a.rows.now) (sym c.first_duplicate.ensures ∙ c.in_default.is)
+
+pub row-requires : goal.row-requires
+row-requires c =
+    let a = c.args in
+    let there = found_within (has_duplicate a.set a.commands.now a.kind) (rows_of a.rows.now) c.in-Some.state (sym c.first_duplicate.ensures ∙ c.in-Some.is) in
+    omega (arith, there, length-groups 8 a.rows.now.count a.rows.now.table.now)
 
 pub returns : goal.returns
-returns c budget =
+returns c =
     let a = c.args in
-    let k = c.first_duplicate_row-state.result in
-    let row = groups_at 8 a.rows a.table.now [] k c.if-rows-state.false ∙ sym c.row_at.ensures in
-    one_duplicate (listed a.l) a.kind a.set c.requires.1.1 (question_from a.t a.right budget) (groups 8 a.rows a.table.now) a.rows k
-    (sym (length-groups 8 a.rows a.table.now)) c.first_duplicate_row-state.ensures c.if-rows-state.false _ (rw row c.first_duplicate_in.ensures)
+    let rows = rows_of a.rows.now in
+    let found = sym c.first_duplicate.ensures ∙ c.in-Some.is in
+    let passes = found_passes (has_duplicate a.set a.commands.now a.kind) rows c.in-Some.state found [] in
+    let command : c.first_duplicate-command.result ≡ Some (first_duplicate a.set a.commands.now a.kind (slice_index_or rows c.in-Some.state [])) =
+    c.first_duplicate-command.ensures ∙ rw (c.row.ensures, passes) refl in
+    one_duplicate a.commands.now a.kind a.set c.requires.1 (question_by a.q.now) rows c.in-Some.state found a.rows.now.count c.unwrap_or.result
+    (sym (length-groups 8 a.rows.now.count a.rows.now.table.now)) (search rules)

@@ -1,21 +1,18 @@
--- `verdicts::answers::reported` meets its contract: the place of the first row that holds the right tells whether one does.
+-- `verdicts::answers::reported` meets its contract: the first row that holds the right is found in the rows that are counted.
 -- Assumes nothing.
-use mathlib.Core.Path.{sym, ◌∙◌}
-use Rattle.model.specs.Words.{groups}
+use Rattle.std.proofs.Common.{sym, ◌∙◌, ap₂, ℕ, Option}
+use Rattle.model.specs.declared.answers.Judgement.TheVariants.{Listed}
+use Rattle.model.specs.Answers.{judged}
+use Rattle.model.specs.Verdicts.{holds}
 use Rattle.laws.proofs.Lists.{length-groups}
-use Rattle.verdicts.proofs.Exits.{none_holds, one_holds}
+use Rattle.listing.specs.Tables.{rows_of}
+use Rattle.verdicts.specs.Asking.{question_by}
+use Rattle.verdicts.proofs.Exits.{reported_is}
 use Rattle.verdicts.proofs.answers.reported.Goals as goal
 
-pub returns-then-rows-state : goal.returns-then-rows-state
-returns-then-rows-state c budget =
-    let a = c.args in
-    c.done.ensures
-    ∙ none_holds a.t a.right budget (groups 8 a.rows a.table.now) a.rows _ (sym (length-groups 8 a.rows a.table.now))
-    c.first_holding-state.ensures c.if-rows-state.true
-
 pub returns : goal.returns
-returns c budget =
-    let a = c.args in
-    c.done-2.ensures
-    ∙ one_holds a.t a.right budget (groups 8 a.rows a.table.now) a.rows _ (sym (length-groups 8 a.rows a.table.now))
-    c.first_holding-state.ensures c.if-rows-state.false
+unfolding holds
+returns c =
+    let r = c.args.rows.now in
+    ap₂ (λ (n : ℕ) (o : Option ℕ). judged (Listed n o)) (sym (length-groups 8 r.count r.table.now)) c.first_holding.ensures
+    ∙ reported_is (question_by c.args.q.now) (rows_of r)

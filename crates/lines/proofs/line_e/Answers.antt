@@ -1,6 +1,0 @@
--- `lines::line_e`: the letter, two words, the newline. Assumes nothing.
-use Rattle.lines.proofs.Chains.{two_words_said}
-use Rattle.lines.proofs.line_e.Goals as goal
-
-pub returns : goal.returns
-returns c = two_words_said "E" c.start.ensures c.with_number-numbered.ensures.0 c.with_number.ensures.0 c.byte.ensures

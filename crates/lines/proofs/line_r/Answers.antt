@@ -1,6 +1,0 @@
--- `lines::line_r`: the letter, two words, the newline. Assumes nothing.
-use Rattle.lines.proofs.Chains.{two_words_said}
-use Rattle.lines.proofs.line_r.Goals as goal
-
-pub returns : goal.returns
-returns c = two_words_said "R" c.start.ensures c.with_number-numbered.ensures.0 c.with_number.ensures.0 c.byte.ensures

@@ -1,9 +1,0 @@
--- `mill::papers::added_4`: one computed test, that the table's commands are the definition's.
--- Assumes nothing.
-use Rattle.model.specs.Words.{written_over}
-use Rattle.mill.specs.Papers.{added4, seven}
-use Rattle.mill.proofs.papers.added_4.Goals as goal
-
-pub returns : goal.returns
-unfolding added4 seven written_over
-returns c = c.commands_of.ensures
