@@ -1,4 +1,4 @@
--- The scheme of a card, loaded command by command: the scheme with its first commands, and one more.
+-- The commands of a card, written one after the other, and the scheme that they make.
 -- Assumes nothing.
 use Prim.Native.Nat.{ℕ, ◌+◌, ◌*◌, ◌≤◌, ◌<◌}
 use mathlib.Core.Path.{◌≡◌, refl, sym, ap, ◌∙◌}

@@ -11,27 +11,37 @@ use crate::{body_of, number};
 // The most requests of a batch.
 pub const MOST_REQUESTS: usize = 256;
 
-// The bytes of a request before its code.
-const REQUEST_FIXED: usize = 4;
+// The bytes of the count, before the first request.
+pub const COUNT_BYTES: usize = 2;
 
-// The count of requests and the bytes of their entries, if the card is a batch's: it counts at most 256 requests, and they fill it.
+// The bytes of a request before its code.
+pub const REQUEST_FIXED: usize = 4;
+
+// The card is a batch's: it counts at most 256 requests, and they fill it.
+#[tactic(auto, unfolding(model::specs::Cards::is_batch_card))]
+pub fn is_batch_card(card: &[u8]) -> bool
+    ensures { result ≡ is_batch_card card.now }
+{
+    let Some(body) = body_of(card) else {
+        return false;
+    };
+    let Some((count, requests)) = body.split_first_chunk::<COUNT_BYTES>() else {
+        return false;
+    };
+    let n = number(*count);
+    n <= MOST_REQUESTS && entries_fill::<REQUEST_FIXED>(requests, n)
+}
+
+// The count of requests and the bytes of their entries, if the card is a batch's.
 #[tactic(auto, unfolding(model::specs::Cards::is_batch_card))]
 pub fn batch_body(card: &[u8]) -> Option<(usize, &[u8])>
     ensures { GivenIf (is_batch_card card.now) result (λ p. (p.0 ≡ request_count card.now) × (p.1.now ≡ drop 2 (body card.now))) }
 {
-    let (count, requests) = body_of(card)?.split_first_chunk()?;
-    let n = number(*count);
-    if n > MOST_REQUESTS || !entries_fill::<REQUEST_FIXED>(requests, n) {
+    if !is_batch_card(card) {
         return None;
     }
-    Some((n, requests))
-}
-
-// The card is a batch's.
-pub fn is_batch_card(card: &[u8]) -> bool
-    ensures { result ≡ is_batch_card card.now }
-{
-    batch_body(card).is_some()
+    let (count, requests) = body_of(card)?.split_first_chunk::<COUNT_BYTES>()?;
+    Some((number(*count), requests))
 }
 
 // A request, as the card or the caller's own hands it over.

@@ -1,5 +1,5 @@
 // The readers of the three cards: what is a card at all, what fills one, and the records that stand on it. Meets the definitions of `model`'s Cards,
-// part by part under the same names. Each answers for a slice of any length. Inner functions: the public calls go through them, and none is offered
+// part by part, as the clauses say. Each answers for a slice of any length. Inner functions: the public calls go through them, and none is offered
 // outside.
 #![tactic(auto)]
 

@@ -15,26 +15,32 @@ use model::Code;
 use rosters::PERSON_WORDS;
 
 // The bytes of a person before the code.
-const PERSON_FIXED: usize = 2;
+pub const PERSON_FIXED: usize = 2;
 
-// The count of people and the bytes of their entries, if the card is a roster's: its people fill it.
+// The card is a roster's: its people fill it.
+#[tactic(auto, unfolding(model::specs::Cards::is_roster_card))]
+pub fn is_roster_card(card: &[u8]) -> bool
+    ensures { result ≡ is_roster_card card.now }
+{
+    let Some(body) = body_of(card) else {
+        return false;
+    };
+    let Some((count, people)) = body.split_first() else {
+        return false;
+    };
+    entries_fill::<PERSON_FIXED>(people, usize::from(*count))
+}
+
+// The count of people and the bytes of their entries, if the card is a roster's.
 #[tactic(auto, unfolding(model::specs::Cards::is_roster_card))]
 pub fn roster_body(card: &[u8]) -> Option<(usize, &[u8])>
     ensures { GivenIf (is_roster_card card.now) result (λ p. (p.0 ≡ get_or (body card.now) 0 0) × (p.1.now ≡ drop 1 (body card.now))) }
 {
-    let (count, people) = body_of(card)?.split_first()?;
-    let n = usize::from(*count);
-    if !entries_fill::<PERSON_FIXED>(people, n) {
+    if !is_roster_card(card) {
         return None;
     }
-    Some((n, people))
-}
-
-// The card is a roster's.
-pub fn is_roster_card(card: &[u8]) -> bool
-    ensures { result ≡ is_roster_card card.now }
-{
-    roster_body(card).is_some()
+    let (count, people) = body_of(card)?.split_first()?;
+    Some((usize::from(*count), people))
 }
 
 // The code, packed if it is spelled right; and else no code, which three zeros pack.

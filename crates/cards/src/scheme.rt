@@ -17,23 +17,29 @@ const COUNTS: usize = 4;
 // The bytes of a command.
 const COMMAND_BYTES: usize = 16;
 
-// The four counts and the bytes of the commands, if the card is a scheme's: its commands fill it.
+// The card is a scheme's: its commands fill it.
+#[tactic(auto, unfolding(model::specs::Cards::is_scheme_card))]
+pub fn is_scheme_card(card: &[u8]) -> bool
+    ensures { result ≡ is_scheme_card card.now }
+{
+    let Some(body) = body_of(card) else {
+        return false;
+    };
+    let Some((counts, commands)) = body.split_first_chunk::<COUNTS>() else {
+        return false;
+    };
+    commands.len() == COMMAND_BYTES * usize::from(counts[3])
+}
+
+// The four counts and the bytes of the commands, if the card is a scheme's.
 #[tactic(auto, unfolding(model::specs::Cards::is_scheme_card))]
 fn scheme_body(card: &[u8]) -> Option<(&[u8; COUNTS], &[u8])>
     ensures { GivenIf (is_scheme_card card.now) result (λ p. (p.0.now ≡ take 4 (body card.now)) × (p.1.now ≡ drop 4 (body card.now))) }
 {
-    let (counts, commands) = body_of(card)?.split_first_chunk()?;
-    if commands.len() != COMMAND_BYTES * usize::from(counts[3]) {
+    if !is_scheme_card(card) {
         return None;
     }
-    Some((counts, commands))
-}
-
-// The card is a scheme's.
-pub fn is_scheme_card(card: &[u8]) -> bool
-    ensures { result ≡ is_scheme_card card.now }
-{
-    scheme_body(card).is_some()
+    body_of(card)?.split_first_chunk()
 }
 
 // The number that four bytes of the slice write.
@@ -44,11 +50,13 @@ fn word_on(bytes: &[u8], at: usize) -> u32
     u32::from_be_bytes([bytes[at], bytes[at + 1], bytes[at + 2], bytes[at + 3]])
 }
 
-// The command that the bytes write.
+// The command that stands at a place of the slice.
 #[tactic(auto, unfolding(model::specs::Cards::command_of))]
-fn command_on(bytes: &[u8; COMMAND_BYTES]) -> Command
-    ensures { result ≡ command_of bytes.now }
+pub fn command_on(bytes: &[u8], at: usize) -> Command
+    requires { at + 16 ≤ length bytes.now }
+    ensures { result ≡ command_of (take 16 (drop at bytes.now)) }
 {
+    let bytes = &bytes[at..at + COMMAND_BYTES];
     Command {
         form: bytes[0],
         source: bytes[1],
@@ -67,10 +75,10 @@ fn write_commands(bytes: &[u8], places: &mut [Command])
 {
     let mut rest = bytes;
     for place in places.iter_mut() {
-        let Some((first, after)) = rest.split_first_chunk() else {
+        let Some((first, after)) = rest.split_first_chunk::<COMMAND_BYTES>() else {
             return;
         };
-        *place = command_on(first);
+        *place = command_on(first, 0);
         rest = after;
     }
 }

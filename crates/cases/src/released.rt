@@ -16,10 +16,10 @@ fn released(rt: &impl Print, name: &str, first: &[Command], added: &[Command]) -
 
 // Each of them; the third, the fourth and the fifth are what they add to the second.
 pub fn releases(rt: &impl Print) -> io::Result<()> {
-    released(rt, "Scheme 1: ", &paper_1(), &[])?;
+    released(rt, "Scheme 1: ", &paper_1()[..6], &[])?;
     released(rt, "Scheme 2: ", &paper_2(), &[])?;
-    released(rt, "Scheme 3: ", &paper_2(), &added_3())?;
-    released(rt, "Scheme 4: ", &paper_2(), &added_4())?;
-    released(rt, "Scheme 5: ", &paper_2(), &added_5())?;
-    released(rt, "Scheme 6: ", &paper_6(), &[])
+    released(rt, "Scheme 3: ", &paper_2(), &added_3()[..2])?;
+    released(rt, "Scheme 4: ", &paper_2(), &added_4()[..2])?;
+    released(rt, "Scheme 5: ", &paper_2(), &added_5()[..5])?;
+    released(rt, "Scheme 6: ", &paper_6()[..6], &[])
 }

@@ -5,7 +5,7 @@
 
 mod classes;
 
-ghost use Rattle.std.specs.Prelude.{◌≡◌, ◌++◌, ◌+◌, ◌≤◌, length, take, drop};
+ghost use Rattle.std.specs.Prelude.{◌≡◌, ◌++◌, ◌+◌, ◌≤◌, ◌&&◌, eqb, length, take, drop};
 ghost use Rattle.model.specs.Words.{all, digits, big_endian};
 ghost use Rattle.model.specs.Codes.{is_code_byte, is_hyphen, spelled, packed, unpadded, unpacked};
 
@@ -69,6 +69,13 @@ pub fn pack(code: &[u8]) -> Code
         b: word_at(&bytes, 4),
         c: word_at(&bytes, 8),
     }
+}
+
+// Two codes are the same: all three words agree.
+pub fn same_code(v: Code, w: Code) -> bool
+    ensures { result ≡ (eqb v.a w.a && eqb v.b w.b && eqb v.c w.c) }
+{
+    v == w
 }
 
 // The twelve bytes of three words.

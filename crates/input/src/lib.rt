@@ -10,7 +10,7 @@ use std::io::Read;
 
 // One read into the part, and how many bytes came: fewer than it has room for are no end of the input, none are the end, or a read that failed.
 // Of a reader whose bytes are known, they are those that it had next, and it has lost no others.
-fn read_some<R: Read>(input: &mut R, part: &mut [u8]) -> usize
+pub fn read_some<R: Read>(input: &mut R, part: &mut [u8]) -> usize
     ensures count { IsPrefixLen result part.new }
     ensures bytes { Consumes (R.remaining input.old) (R.remaining input.new) (take result part.new) }
 {

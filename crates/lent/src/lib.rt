@@ -1,5 +1,5 @@
 // The lent list of a scheme's commands: the two functions that read and write it. A public call loads the list into a scheme by
-// value and goes on with that; the call that fills the list writes it from one. Inner functions: none is offered outside.
+// value, and lends that to the inner functions; the call that fills the list writes it from one. Inner functions: none is offered outside.
 #![tactic(auto)]
 
 ghost use Rattle.std.specs.Prelude.{◌≡◌, ◌≤◌, length, take};

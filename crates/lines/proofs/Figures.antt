@@ -89,6 +89,11 @@ pub length-decimal : (n : ℕ) → length (decimal n) ≤ 4
 unfolding decimal
 length-decimal n = simp length-map (length-trimmed (digits 10 4 n))
 
+-- a number of one figure
+pub length-decimal_1 : (n : ℕ) → n < 10 → length (decimal n) ≡ 1
+unfolding decimal
+length-decimal_1 n h = rw (below_4 n (omega arith), below_3 n (omega arith), below_2 n h) refl
+
 -- no longer than the power of ten that it is below
 pub length-decimal_below : (n width : ℕ) → 0 < width → n < 10 ^ width → length (decimal n) ≤ width
 unfolding decimal

@@ -2,30 +2,18 @@
 // Lines. Inner functions: none is offered outside.
 #![tactic(auto)]
 
+mod line;
+
 ghost use Rattle.std.specs.Prelude.{◌≡◌, ◌+◌, ◌<◌, ◌≤◌, List, [], ◌∷◌, ◌++◌, length, map};
 ghost use Rattle.model.specs.Words.{digits};
 ghost use Rattle.model.specs.Codes.{unpacked};
 ghost use Rattle.model.specs.Lines.{digit_byte, decimal, hexadecimal, line, line_x};
-ghost use Rattle.lines.specs.Lines.{Put};
+ghost use Rattle.lines.specs.Lines.{text_of, Put};
 
-use arrayvec::ArrayVec;
 use codes::{bytes_of, unpadded};
+pub use line::Line;
+use line::MOST_LINE;
 use model::Code;
-use std::marker::Model;
-
-// A line so far, seen as its bytes. The longest line has 24.
-#[derive(Drop)]
-pub struct Line {
-    bytes: ArrayVec<u8, 32>,
-}
-
-impl Model for Line {
-    ghost use Rattle.std.specs.Prelude.{ℕ, List};
-
-    ghost Value = { List ℕ };
-
-    ghost view = { λ l. l.bytes.items };
-}
 
 // The byte of a digit: 0 to 9, A to F.
 #[tactic(auto, unfolding(model::specs::Lines::digit_byte))]
@@ -39,30 +27,36 @@ fn digit_byte(d: u8) -> u8
 impl Line {
     // A line that begins with its letter.
     fn new(letter: u8) -> Line
-        ensures { result ≡ letter ∷ [] }
+        ensures text { text_of result ≡ letter ∷ [] }
+        ensures room { result.len ≡ 1 }
     {
-        let mut bytes = ArrayVec::new();
-        bytes.push(letter);
-        Line { bytes }
+        let mut bytes = [0; MOST_LINE];
+        bytes[0] = letter;
+        Line { bytes, len: 1 }
     }
 
     // One byte more.
     fn push(mut self, byte: u8) -> Line
-        requires { length self < 32 }
-        ensures text { result ≡ self ++ byte ∷ [] }
-        ensures room { length result ≡ length self + 1 }
+        requires { self.len < 32 }
+        ensures text { text_of result ≡ text_of self ++ byte ∷ [] }
+        ensures room { result.len ≡ self.len + 1 }
     {
-        self.bytes.push(byte);
+        let at = self.len;
+        self.bytes[at] = byte;
+        self.len = at + 1;
         self
     }
 
     // All of these bytes more.
     fn extend(mut self, bytes: &[u8]) -> Line
-        requires { length self + length bytes.now ≤ 32 }
-        ensures text { result ≡ self ++ bytes.now }
-        ensures room { length result ≡ length self + length bytes.now }
+        requires { self.len + length bytes.now ≤ 32 }
+        ensures text { text_of result ≡ text_of self ++ bytes.now }
+        ensures room { result.len ≡ self.len + length bytes.now }
     {
-        self.bytes.try_extend_from_slice(bytes).unwrap();
+        let at = self.len;
+        let end = at + bytes.len();
+        self.bytes[at..end].copy_from_slice(bytes);
+        self.len = end;
         self
     }
 
@@ -70,9 +64,9 @@ impl Line {
     // Stays by hand: no clause says when a `write!` succeeds, and the library's digits without it are decimal alone.
     #[tactic(auto, using(crate::proofs::Figures::digits_more))]
     fn digits(self, base: usize, width: u32, n: usize) -> Line
-        requires { (0 < base) × (base ≤ 16) × (length self + width ≤ 32) }
-        ensures text { result ≡ self ++ map digit_byte (digits base width n) }
-        ensures room { length result ≡ length self + width }
+        requires { (0 < base) × (base ≤ 16) × (self.len + width ≤ 32) }
+        ensures text { text_of result ≡ text_of self ++ map digit_byte (digits base width n) }
+        ensures room { result.len ≡ self.len + width }
     {
         if width == 0 {
             return self;
@@ -83,9 +77,9 @@ impl Line {
 
     // One word more, after a space: a number in decimal, of which none that is printed has more than four digits.
     fn number(self, n: usize) -> Line
-        requires { (n < 10000) × (length self + 5 ≤ 32) }
-        ensures text { result ≡ self ++ 32 ∷ decimal n }
-        ensures room { length result ≤ length self + 5 }
+        requires { (n < 10000) × (self.len + 5 ≤ 32) }
+        ensures text { text_of result ≡ text_of self ++ 32 ∷ decimal n }
+        ensures room { result.len ≤ self.len + 5 }
     {
         // also 0 has a digit
         let width = n.max(1).ilog10() + 1;
@@ -95,26 +89,26 @@ impl Line {
     // One word more: rights as eight hexadecimal digits.
     #[tactic(auto, unfolding(model::specs::Lines::hexadecimal))]
     fn rights(self, rights: u32) -> Line
-        requires { length self + 9 ≤ 32 }
-        ensures text { result ≡ self ++ 32 ∷ hexadecimal rights }
-        ensures room { length result ≤ length self + 9 }
+        requires { self.len + 9 ≤ 32 }
+        ensures text { text_of result ≡ text_of self ++ 32 ∷ hexadecimal rights }
+        ensures room { result.len ≤ self.len + 9 }
     {
         self.push(b' ').digits(16, 8, rights as usize)
     }
 
     // One word more: a code, from its three words.
     fn code(self, w: Code) -> Line
-        requires { length self + 13 ≤ 32 }
-        ensures text { result ≡ self ++ 32 ∷ unpacked w }
-        ensures room { length result ≤ length self + 13 }
+        requires { self.len + 13 ≤ 32 }
+        ensures text { text_of result ≡ text_of self ++ 32 ∷ unpacked w }
+        ensures room { result.len ≤ self.len + 13 }
     {
         self.push(b' ').extend(unpadded(&bytes_of(w)))
     }
 
     // The end of the line.
     fn end(self) -> Line
-        requires { length self < 32 }
-        ensures { result ≡ self ++ 10 ∷ [] }
+        requires { self.len < 32 }
+        ensures { text_of result ≡ text_of self ++ 10 ∷ [] }
     {
         self.push(b'\n')
     }
@@ -124,7 +118,7 @@ impl Line {
 #[tactic(auto, unfolding(model::specs::Lines::line, model::specs::Lines::line_x))]
 pub fn line_x(number: usize) -> Line
     requires { number < 10000 }
-    ensures { result ≡ line_x number }
+    ensures { text_of result ≡ line_x number }
 {
     Line::new(b'X').number(number).end()
 }
@@ -133,7 +127,7 @@ pub fn line_x(number: usize) -> Line
 #[tactic(auto, unfolding(model::specs::Lines::line))]
 pub fn line_r(request: usize, number: usize) -> Line
     requires { (request < 10000) × (number < 10000) }
-    ensures { result ≡ line "R" (decimal request ∷ decimal number ∷ []) }
+    ensures { text_of result ≡ line "R" (decimal request ∷ decimal number ∷ []) }
 {
     Line::new(b'R').number(request).number(number).end()
 }
@@ -142,7 +136,7 @@ pub fn line_r(request: usize, number: usize) -> Line
 #[tactic(auto, unfolding(model::specs::Lines::line))]
 pub fn line_d(code: Code, kind: usize) -> Line
     requires { kind < 10000 }
-    ensures { result ≡ line "D" (unpacked code ∷ decimal kind ∷ []) }
+    ensures { text_of result ≡ line "D" (unpacked code ∷ decimal kind ∷ []) }
 {
     Line::new(b'D').code(code).number(kind).end()
 }
@@ -150,7 +144,7 @@ pub fn line_d(code: Code, kind: usize) -> Line
 // A person and the rights in the cell.
 #[tactic(auto, unfolding(model::specs::Lines::line))]
 pub fn line_p(code: Code, rights: u32) -> Line
-    ensures { result ≡ line "P" (unpacked code ∷ hexadecimal rights ∷ []) }
+    ensures { text_of result ≡ line "P" (unpacked code ∷ hexadecimal rights ∷ []) }
 {
     Line::new(b'P').code(code).rights(rights).end()
 }
@@ -159,7 +153,7 @@ pub fn line_p(code: Code, rights: u32) -> Line
 #[tactic(auto, unfolding(model::specs::Lines::line))]
 pub fn line_e(requests: usize, done: usize) -> Line
     requires { (requests < 10000) × (done < 10000) }
-    ensures { result ≡ line "E" (decimal requests ∷ decimal done ∷ []) }
+    ensures { text_of result ≡ line "E" (decimal requests ∷ decimal done ∷ []) }
 {
     Line::new(b'E').number(requests).number(done).end()
 }
@@ -168,7 +162,7 @@ pub fn line_e(requests: usize, done: usize) -> Line
 #[tactic(auto, unfolding(model::specs::Lines::line))]
 pub fn line_c(command: usize, number: usize, states: usize) -> Line
     requires { (command < 10000) × (number < 10000) × (states < 10000) }
-    ensures { result ≡ line "C" (decimal command ∷ decimal number ∷ decimal states ∷ []) }
+    ensures { text_of result ≡ line "C" (decimal command ∷ decimal number ∷ decimal states ∷ []) }
 {
     Line::new(b'C')
         .number(command)
@@ -181,7 +175,7 @@ pub fn line_c(command: usize, number: usize, states: usize) -> Line
 #[tactic(auto, unfolding(model::specs::Lines::line))]
 pub fn line_t(t: usize, rights: u32) -> Line
     requires { t < 10000 }
-    ensures { result ≡ line "T" (decimal t ∷ hexadecimal rights ∷ []) }
+    ensures { text_of result ≡ line "T" (decimal t ∷ hexadecimal rights ∷ []) }
 {
     Line::new(b'T').number(t).rights(rights).end()
 }
@@ -189,10 +183,10 @@ pub fn line_t(t: usize, rights: u32) -> Line
 // The line, put into the text at a place; and where it ends.
 #[tactic(auto, using(crate::proofs::Texts::put_copied))]
 pub fn put(text: &mut [u8], at: usize, line: Line) -> usize
-    requires { at + length line ≤ length text.old }
-    ensures { Put line at text.old result text.new }
+    requires { at + length (text_of line) ≤ length text.old }
+    ensures { Put (text_of line) at text.old result text.new }
 {
-    let end = at + line.bytes.len();
-    text[at..end].copy_from_slice(line.bytes.as_slice());
+    let end = at + line.len;
+    text[at..end].copy_from_slice(&line.bytes[..line.len]);
     end
 }

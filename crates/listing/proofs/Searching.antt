@@ -16,7 +16,7 @@ use Rattle.listing.specs.Searches.{Lists}
 use Rattle.listing.proofs.Listed.{lists_same, lists_rows, lists_on, lists_cut}
 
 -- the start, put into no rows, is row 0
-put_first : (start : Row) (old : List ℕ) → put start (groups 8 0 old) ≡ start ∷ []
+pub put_first : (start : Row) (old : List ℕ) → put start (groups 8 0 old) ≡ start ∷ []
 unfolding put
 put_first start old = refl
 
@@ -24,7 +24,7 @@ one_sized : (start : Row) → length start ≡ 8 → Sized 8 (start ∷ []) []
 one_sized start e i l = let first : i ≡ 0 = omega arith in rw first e
 
 -- it is counted, and it stands in the first words
-first_listed : (start : Row) (budget n : ℕ) (old table : List ℕ) → length start ≡ 8 → 1 ≤ budget → Lists (start ∷ []) budget old n table
+pub first_listed : (start : Row) (budget n : ℕ) (old table : List ℕ) → length start ≡ 8 → 1 ≤ budget → Lists (start ∷ []) budget old n table
     → (n ≡ 1) × (take 8 table ≡ start)
 first_listed start budget n old table eight one has =
     let count : n ≡ 1 = omega arith in

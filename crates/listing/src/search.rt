@@ -110,8 +110,9 @@ pub fn search(l: &Loaded, kind: usize, start: Row, budget: usize, table: &mut [u
         let row = listed.row(p.row);
         let next = scope.expanded(p, table, row);
         p = Progress {
+            rows: next.rows,
             row: p.row + 1,
-            ..next
+            command: 0,
         };
     }
     p

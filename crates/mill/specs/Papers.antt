@@ -1,8 +1,9 @@
 -- The six schemes of source document 001, section 5, "Document release examples". Types: 0 sci, 1 so, 2 po. One kind. "R = {own, read, write,
 -- ask-sec, ask-pat, review, sec-ok, sec-reject, pat-ok, pat-reject, release}", rights 0 to 10. Assumes nothing.
-use Rattle.std.specs.Prelude.{ℕ, List, [], ◌∷◌, ◌++◌}
+use Rattle.std.specs.Prelude.{ℕ, List, [], ◌∷◌, ◌++◌, replicate}
 use Rattle.model.specs.declared.Command.{Command}
-use Rattle.model.specs.Schemes.{Scheme}
+use Rattle.model.specs.Words.{written_over}
+use Rattle.model.specs.Schemes.{Scheme, no_command}
 use Rattle.model.specs.Mill.{command}
 
 abbrev paper_scheme : List Command → Scheme
@@ -76,6 +77,10 @@ added5 = reject_sec 0x008 ∷ reject_pat 0x010 ∷ revise_document ∷ undo_secu
 unfoldable pub paper6 : List Command
 paper6 =
     create ∷ seek_security ∷ seek_patent ∷ command 2 1 0 0x020 0 0x040 ∷ command 2 2 0 0x020 0 0x100 ∷ command 3 0 0 0x140 0 0x400 ∷ []
+
+-- the commands in a table of seven, the last ones empty where there are fewer
+unfoldable pub seven : List Command → List Command
+seven commands = written_over commands (replicate 7 no_command)
 
 -- the whole schemes
 abbrev pub scheme1 : Scheme

@@ -1,5 +1,6 @@
 // The answers' records, made of what a call found out: the number, and the value that comes with a 0.
 ghost use Rattle.std.specs.Prelude.{◌≡◌};
+ghost use Rattle.model.specs.Verdicts.{only};
 ghost use Rattle.model.specs.Answers.{scheme_refused, roster_given, list_given, text_given, may_given, batch_given, judged, verdict_given};
 
 use crate::refusal::{Refusal, number_given};
@@ -123,13 +124,17 @@ impl From<Result<Ran, Refusal>> for BatchRun {
 }
 
 // A number alone.
-const NONE: Verdict = Verdict {
-    number: 0,
-    states: 0,
-    held: 0,
-    state: 0,
-    command: 0,
-};
+pub fn only(number: u8) -> Verdict
+    ensures { result ≡ only number }
+{
+    Verdict {
+        number,
+        states: 0,
+        held: 0,
+        state: 0,
+        command: 0,
+    }
+}
 
 impl From<Judgement> for Verdict {
     ghost from_gives = { λ judgement verdict. verdict ≡ judged judgement };
@@ -137,28 +142,25 @@ impl From<Judgement> for Verdict {
     fn from(judgement: Judgement) -> Self {
         match judgement {
             Judgement::NotNormal { command } => Verdict {
-                number: 16,
                 command,
-                ..NONE
+                ..only(16)
             },
-            Judgement::Overlap => Verdict { number: 17, ..NONE },
+            Judgement::Overlap => only(17),
             Judgement::PastBudget { budget } => Verdict {
-                number: 18,
                 states: budget,
-                ..NONE
+                ..only(18)
             },
             Judgement::Duplicate {
                 states,
                 state,
                 command,
             } => Verdict {
-                number: 19,
                 states,
                 state,
                 command,
-                ..NONE
+                ..only(19)
             },
-            Judgement::Listed { states, held: None } => Verdict { states, ..NONE },
+            Judgement::Listed { states, held: None } => Verdict { states, ..only(0) },
             Judgement::Listed {
                 states,
                 held: Some(state),
@@ -166,7 +168,7 @@ impl From<Judgement> for Verdict {
                 states,
                 held: 1,
                 state,
-                ..NONE
+                ..only(0)
             },
         }
     }
@@ -178,10 +180,7 @@ impl From<Result<Judgement, Refusal>> for Verdict {
     fn from(answer: Result<Judgement, Refusal>) -> Self {
         match answer {
             Ok(judgement) => judgement.into(),
-            Err(refusal) => Verdict {
-                number: refusal.number(),
-                ..NONE
-            },
+            Err(refusal) => only(refusal.number()),
         }
     }
 }

@@ -1,5 +1,6 @@
 // The ground: the plain records that travel between the calls, and in specs/ every rule of the build as a definition.
-// No code is here but the records. Every other crate is proved against these definitions.
+// The code that is here says what the records stand for: why a call is refused, the three forms of a command, and the answers that are made of
+// what a call found. Every other crate is proved against these definitions.
 #![tactic(auto)]
 
 pub mod answers;

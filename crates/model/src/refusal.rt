@@ -2,7 +2,7 @@
 ghost use Rattle.std.specs.Prelude.{◌≡◌};
 ghost use Rattle.model.specs.Refusals.{number_of_refusal, number_given};
 
-// Each refusal but those of a verdict (16 to 19), which stand in `judgement` with what they tell.
+// Each refusal but those of a verdict (16 to 19), which stand in `answers::Judgement` with what they tell.
 #[derive(Clone, Copy, Debug, PartialEq, Eq)]
 pub enum Refusal {
     // The card's version, length or filling is wrong, or a batch counts over 256 requests.

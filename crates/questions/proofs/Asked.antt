@@ -1,4 +1,4 @@
--- The numbers of the question and of the access list at each exit of their checks, with the answers of the calls on the way; and what a 0 tells.
+-- The numbers of the question and of the access list at each exit of their checks, with the answers of the calls on the way; and that a right that is asked is below 32.
 -- Assumes nothing.
 use Prim.Native.Nat.{ℕ, suc, ◌+◌, ◌*◌, ◌≤◌, ◌<◌}
 use mathlib.Core.Bool.{Bool, true, false, not}

@@ -1,2 +1,2 @@
--- The definitions that the contracts of this crate cite beside those of `model`.
+-- The definitions that the contracts and the laws of this crate cite beside those of `model`.
 pub mod Shown

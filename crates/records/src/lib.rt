@@ -8,7 +8,7 @@ ghost use Rattle.model.specs.Words.{◌when◌else◌, all, first_place, same, a
 ghost use Rattle.model.specs.Codes.{spelled, unpacked};
 ghost use Rattle.records.specs.Records.{code_from, codes_in, is_new};
 
-use codes::spelled_words;
+use codes::{same_code, spelled_words};
 use model::Code;
 
 // The code whose three words start at a place.
@@ -48,7 +48,7 @@ impl<'a> Records<'a> {
         requires { i < self.now.count }
         ensures { result ≡ same (get_or (codes_in self.now.size self.now.count self.now.words.now) i []) (unpacked code) }
     {
-        self.code(i) == code
+        same_code(self.code(i), code)
     }
 
     // Each of the codes is spelled right.

@@ -1,6 +1,6 @@
 // The public calls, and nothing else is public. Each takes every input, ends, and refuses bad input by its number; none has a
 // `requires`. Its contract is its named outcome in `model/specs/Outcomes` or `Lines`, an equation for the answer and for every lent word.
-// A call that takes the lent list of commands loads it and goes on by value.
+// A call that takes the lent list of commands loads it into a value of its own, and lends that to the inner functions.
 #![tactic(auto)]
 
 ghost use Rattle.model.specs.Outcomes.{scheme_from, handed_from, request_from, question_from, ReadSchemeOutcome, ReadRosterOutcome, RequestOutcome, RunBatchOutcome, MayUseOutcome, AccessListOutcome, VerdictOfCreateOutcome, VerdictOfDesignOutcome};

@@ -10,7 +10,7 @@ ghost use Rattle.model.specs.Refusals.{number_given};
 ghost use Rattle.model.specs.Rosters.{nobody, type_at, roster_number, roster_of};
 
 use model::Code;
-use model::refusal::Refusal;
+use model::refusal::{Refusal, number_given};
 use records::{Records, code_in};
 
 // The most people in a roster.
@@ -95,4 +95,12 @@ pub fn check_roster<'a>(
         return Err(Refusal::SameCode);
     }
     Ok(roster)
+}
+
+// The number of the check: 3, 4, 5, or 0.
+pub fn roster_number(types: usize, count: usize, roster: &[u32]) -> u8
+    requires { roster_room ≤ length roster.now }
+    ensures { result ≡ roster_number types (roster_of count roster.now) }
+{
+    number_given(&check_roster(roster, count, types))
 }

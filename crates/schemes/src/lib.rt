@@ -1,4 +1,4 @@
-// A scheme by value, as the cores take it: its three counts, how many commands were lent, and the first 64 of them. Meets the
+// A scheme by value, as the cores are lent it: its three counts, how many commands were lent, and the first 64 of them. Meets the
 // definitions of `model`'s Schemes at the scheme that it stands for, `scheme_in`. Inner functions: none is offered outside.
 #![tactic(auto)]
 

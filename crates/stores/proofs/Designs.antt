@@ -45,18 +45,21 @@ module _ (words : List ℕ) where
     pub codes_are : codes_in size n rest ≡ map (λ d. d.code) designs
     codes_are = rw (wide, behind, e ∙ length-store) (sym codes_of)
 
-    place_is : (code : List ℕ) → first_place (λ c. same c code) (codes_in size n rest) ≡ place_of code designs
+    pub place_is : (code : List ℕ) → first_place (λ c. same c code) (codes_in size n rest) ≡ place_of code designs
     place_is code = rw codes_are (first-map (λ (d : Design). d.code) (λ c. same c code) designs)
 
-    -- a place among the records, as the search for a packed code gives it
-    pub place_found : (code : List ℕ) → spelled code ≡ true → (w : Code) → w ≡ packed code → (o : Option ℕ)
+    -- a place among the records, as the search for three words gives it
+    pub place_found : (w : Code) (o : Option ℕ)
         → o ≡ (Some (first_place (λ c. same c (unpacked w)) (codes_in size n rest)) when ltb (first_place (λ c. same c (unpacked w)) (codes_in size n rest)) n else None)
-        → o ≡ (Some (place_of code designs) when exists code designs else None)
-    place_found code h w p o found =
-        let read : unpacked w ≡ code = ap unpacked p ∙ unpacked-packed code h in
-        let place : first_place (λ c. same c (unpacked w)) (codes_in size n rest) ≡ place_of code designs =
-        ap (λ (r : List ℕ). first_place (λ c. same c r) (codes_in size n rest)) read ∙ place_is code in
-        found ∙ ap₂ (λ (i k : ℕ). Some i when ltb i k else None) place e
+        → o ≡ (Some (place_of (unpacked w) designs) when exists (unpacked w) designs else None)
+    place_found w o found = found ∙ ap₂ (λ (i k : ℕ). Some i when ltb i k else None) (place_is (unpacked w)) e
+
+  -- with the words that a code is packed into
+  pub place_packed : (code : List ℕ) → spelled code ≡ true → (w : Code) → w ≡ packed code → (o : Option ℕ)
+      → o ≡ (Some (place_of (unpacked w) designs) when exists (unpacked w) designs else None)
+      → o ≡ (Some (place_of code designs) when exists code designs else None)
+  place_packed code h w p o found =
+      found ∙ ap (λ (c : List ℕ). Some (place_of c designs) when exists c designs else None) (ap unpacked p ∙ unpacked-packed code h)
 
   -- ---- the design at a place
 

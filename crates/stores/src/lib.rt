@@ -13,7 +13,7 @@ ghost use Rattle.model.specs.Stores.{no_design, place_of, exists, design_at, nam
 
 use codes::{pack, spelled};
 use model::Code;
-use model::refusal::Refusal;
+use model::refusal::{Refusal, number_given};
 use records::{Records, code_in};
 use rights::fits_rights;
 
@@ -28,6 +28,15 @@ pub const FIRST_CELL: usize = 4;
 
 // The words of a store: the count, and the most designs.
 pub const STORE_ROOM: usize = 1 + MOST_DESIGNS * DESIGN_WORDS;
+
+// How many designs the words count, which can be any number until the store is checked.
+#[tactic(auto, using(crate::proofs::Designs::store_counts))]
+pub fn design_count(words: &[u32]) -> usize
+    requires { store_room ≤ length words.now }
+    ensures { result ≡ length (store_of words.now) }
+{
+    words[0] as usize
+}
 
 // Each of the cells holds only rights below the count.
 fn cells_fit(cells: &[u32], rights: usize) -> bool
@@ -100,11 +109,10 @@ pub struct Store<'a> {
 
 impl<'a> Store<'a> {
     // How many designs there are.
-    #[tactic(auto, using(crate::proofs::Designs::store_counts))]
     pub fn count(&self) -> usize
         ensures { result ≡ length (store_of self.now.words.now) }
     {
-        self.words[0] as usize
+        design_count(self.words)
     }
 
     // The designs as records.
@@ -132,12 +140,19 @@ impl<'a> Store<'a> {
         }
     }
 
+    // The place of the first design with these three words for its code, which can be any.
+    pub fn place(&self, code: Code) -> Option<usize>
+        ensures { result ≡ (Some (place_of (unpacked code) (store_of self.now.words.now)) when exists (unpacked code) (store_of self.now.words.now) else None) }
+    {
+        self.records().place_of(code)
+    }
+
     // The place of the design with this code.
     pub fn place_of(&self, code: &[u8]) -> Option<usize>
         requires { spelled code.now ≡ true }
         ensures { result ≡ (Some (place_of code.now (store_of self.now.words.now)) when exists code.now (store_of self.now.words.now) else None) }
     {
-        self.records().place_of(pack(code))
+        self.place(pack(code))
     }
 
     // The design with this code.
@@ -183,7 +198,7 @@ pub fn check_store<'a>(
     ensures number { number_given result ≡ store_number kinds rights people (store_of words.now) }
     ensures store { IfOk result (λ s. s.words.now ≡ words.now) }
 {
-    if MOST_DESIGNS < words[0] as usize {
+    if MOST_DESIGNS < design_count(words) {
         return Err(Refusal::BadStore);
     }
     let store = Store { words };
@@ -195,4 +210,12 @@ pub fn check_store<'a>(
         return Err(Refusal::BadStore);
     }
     Ok(store)
+}
+
+// The number of the check: 21, or 0.
+pub fn store_number(kinds: usize, rights: usize, people: usize, store: &[u32]) -> u8
+    requires { (rights ≤ 32) × (people ≤ 32) × (store_room ≤ length store.now) }
+    ensures { result ≡ store_number kinds rights people (store_of store.now) }
+{
+    number_given(&check_store(store, kinds, rights, people))
 }

@@ -65,11 +65,11 @@ type_said rows t rights says e = rw (← e) says
 -- ---- commands
 
 module _ (s : Scheme) (k : ℕ) (c : Command) where
-  no_lines : is_create c ≡ false → command_lines s k c ≡ []
+  pub no_lines : is_create c ≡ false → command_lines s k c ≡ []
   unfolding command_lines
   no_lines e = rw e refl
 
-  its_lines : is_create c ≡ true → command_lines s k c ≡ lines_c s k c
+  pub its_lines : is_create c ≡ true → command_lines s k c ≡ lines_c s k c
   unfolding command_lines
   its_lines e = rw e refl
 

@@ -22,7 +22,7 @@ use Rattle.model.specs.Lines.{decimal, hexadecimal, line, line_x, lines_r, line_
 use Rattle.laws.proofs.Tests.{by_test}
 use Rattle.laws.proofs.Lists.{Each, those-length, length-numbers}
 use Rattle.laws.proofs.Codes.{spelling}
-use Rattle.lines.proofs.Figures.{length-decimal, length-decimal_below, length-hexadecimal}
+use Rattle.lines.proofs.Figures.{length-decimal, length-decimal_1, length-decimal_below, length-hexadecimal}
 
 -- ---- one line
 
@@ -42,8 +42,8 @@ unfolding line
 line_length letter words = simp (length-append) (omega (arith, length-spaced words))
 
 module _ (n : ℕ) where
-  pub one_figure : n < 10 → length (decimal n) ≤ 1
-  one_figure h = length-decimal_below n 1 (omega arith) h
+  pub one_figure : n < 10 → length (decimal n) ≡ 1
+  one_figure h = length-decimal_1 n h
 
   pub two_figures : n < 100 → length (decimal n) ≤ 2
   two_figures h = length-decimal_below n 2 (omega arith) h

@@ -35,17 +35,17 @@ pub scheme_read_lem : (card : List ℕ) → scheme_card_number card ≡ 0 → sc
 unfolding scheme_card_number
 scheme_read_lem card h = (simp accepted at h).1
 
-roster_read_lem : (s : Scheme) (card : List ℕ) → roster_card_number s card ≡ 0 → roster_number s.types (people_of card) ≡ 0
+pub roster_read_lem : (s : Scheme) (card : List ℕ) → roster_card_number s card ≡ 0 → roster_number s.types (people_of card) ≡ 0
 unfolding roster_card_number
 roster_read_lem s card h = (simp accepted at h).1.1
 
-people_held : (types : ℕ) (people : List Person) (words : List ℕ) → roster_number types people ≡ 0
+pub people_held : (types : ℕ) (people : List Person) (words : List ℕ) → roster_number types people ≡ 0
     → roster_of (length people) (written_over (roster_words people) words) ≡ people
 people_held types people words h =
     let same = same_people types people h in
     ap (λ (ps : List Person). roster_of (length people) (written_over (roster_words ps) words)) (sym same) ∙ roster_held people words ∙ same
 
-roster_given : {s : Scheme} {card roster : List ℕ} {r : RosterRead} {exit : List ℕ} → 128 ≤ length roster → ReadRosterOutcome s card roster r exit
+pub roster_given : {s : Scheme} {card roster : List ℕ} {r : RosterRead} {exit : List ℕ} → 128 ≤ length roster → ReadRosterOutcome s card roster r exit
     → r.number ≡ 0 → (roster_of r.people exit ≡ people_of card) × (roster_number s.types (people_of card) ≡ 0)
 roster_given {s} {card} {roster} room o none =
     let g = given room o in

@@ -132,11 +132,11 @@ module _ {s : Scheme} {count : ℕ} {roster store card answers : List ℕ} (fres
   few : length told ≤ 256
   few = rw (numbers_length s who [] (requests_of card)) (few_requests card none)
 
-  requests_are : requests ≡ length told
+  pub requests_are : requests ≡ length told
   unfolding batch_run
   requests_are = ap (λ (x : BatchRun). x.requests) o.answer_is ∙ rw (is_zero, nothing) refl
 
-  done_are : done ≡ count_done told
+  pub done_are : done ≡ count_done told
   unfolding batch_run
   done_are = ap (λ (x : BatchRun). x.done) o.answer_is ∙ rw (is_zero, nothing) refl
 
@@ -149,7 +149,7 @@ module _ {s : Scheme} {count : ℕ} {roster store card answers : List ℕ} (fres
   kept_good : Good s who kept
   kept_good = left_good s count roster store card answers fresh
 
-  designs_are : store_of store_exit ≡ kept
+  pub designs_are : store_of store_exit ≡ kept
   designs_are = rw store_is (store_of_words kept store (whole s who kept kept_good))
 
   shown_parts : run_parts who (store_of store_exit) (take requests answers_exit) done ≡ run_lines s who (requests_of card)
@@ -158,7 +158,7 @@ module _ {s : Scheme} {count : ℕ} {roster store card answers : List ℕ} (fres
       let first : take requests answers_exit ≡ told = rw (answers_are, requests_are) (take-written told answers) in
       rw (first, designs_are, done_are)
 
-  run_room : length (run_lines s who (requests_of card)) ≤ batch_text_room
+  pub run_room : length (run_lines s who (requests_of card)) ≤ batch_text_room
   unfolding run_lines
   run_room =
       let valid = valid_scheme s fresh.scheme in

@@ -65,6 +65,6 @@ pub fn batch_text(bytes: &[u8], text: &mut [u8]) -> Result<usize, Refusal>
     }
     Ok(match print_batch(bytes, text) {
         Ok(end) => end,
-        Err(refusal) => print_refusal(text, refusal),
+        Err(refusal) => print_refusal(text, refusal.number()),
     })
 }

@@ -111,6 +111,6 @@ pub fn verdict_text(bytes: &[u8], table: &mut [u32], text: &mut [u8]) -> Result<
     let (card, _) = split_card(bytes);
     Ok(match read_scheme(card) {
         Ok(l) => put_creates(&l, table, text),
-        Err(refusal) => print_refusal(text, refusal),
+        Err(refusal) => print_refusal(text, refusal.number()),
     })
 }

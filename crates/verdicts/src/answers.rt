@@ -14,6 +14,7 @@ use listing::rows::Rows;
 use listing::search::search;
 use model::Command;
 use model::answers::Judgement;
+pub use model::answers::only;
 use schemes::Loaded;
 
 // 0: what the listed rows say of the right.

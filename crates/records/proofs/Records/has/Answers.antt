@@ -2,10 +2,8 @@
 -- Assumes nothing.
 use Prim.Native.Nat.{ℕ}
 use mathlib.Core.Path.{sym, ap, ◌∙◌}
-use mathlib.Core.Bool.{and_assoc}
 use mathlib.Core.List.{List}
 use borrow.Author.Rules.{rules}
-use lib.Dec.{eqb}
 use Rattle.model.specs.Words.{same}
 use Rattle.model.specs.Codes.{unpacked}
 use Rattle.laws.proofs.Codes.{same_unpacked}
@@ -15,5 +13,5 @@ pub returns : goal.returns
 returns c =
     let v = c.code.result in
     let w = c.args.code in
-    c.eq.ensures ∙ sym (and_assoc (eqb v.a w.a) (eqb v.b w.b) (eqb v.c w.c)) ∙ sym (same_unpacked v w (search rules) (search rules))
+    c.same_code.ensures ∙ sym (same_unpacked v w (search rules) (search rules))
     ∙ ap (λ (bytes : List ℕ). same bytes (unpacked w)) c.code.ensures.code

@@ -1,10 +1,7 @@
--- `Store::place_of` meets its contract: the place among the records is the place among the designs.
+-- `Store::place_of` meets its contract: a code that is spelled right is read again from the words that it is packed into.
 -- Assumes nothing.
-use Rattle.stores.proofs.Designs.{place_found}
+use Rattle.stores.proofs.Designs.{place_packed}
 use Rattle.stores.proofs.Store.place_of.Goals as goal
 
 pub returns : goal.returns
-returns c =
-    let r = c.records in
-    place_found c.args.self.now.words.now r.result.size r.result.count r.result.words.now r.ensures.size r.ensures.count r.ensures.words
-    c.args.code.now c.requires c.pack.result c.pack.ensures c.place_of.result c.place_of.ensures
+returns c = place_packed c.args.self.now.words.now c.args.code.now c.requires c.pack.result c.pack.ensures c.place.result c.place.ensures

@@ -11,4 +11,4 @@ returns-in-Ok c = all_printed c.args.bytes.now c.if-text-lt-ROOM.false c.in-Ok.e
 
 pub returns-in-Err : goal.returns-in-Err
 returns-in-Err c =
-    all_printed c.args.bytes.now c.if-text-lt-ROOM.false (rw c.in-Err.ensures.left at c.print_refusal.ensures) (refusal_text c.args.bytes.now c.in-Err.refusal c.in-Err.ensures.number)
+    all_printed c.args.bytes.now c.if-text-lt-ROOM.false (rw c.in-Err.ensures.left at c.print_refusal.ensures) (rw c.number.ensures (refusal_text c.args.bytes.now c.in-Err.refusal c.in-Err.ensures.number))

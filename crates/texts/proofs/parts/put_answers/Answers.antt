@@ -1,6 +1,7 @@
 -- `texts::parts::put_answers` meets its contract: what is left of the answers begins with the next. Assumes nothing.
 use native.Mathlib.Omega.{arith}
 use mathlib.Core.Path.{◌≡◌}
+use Rattle.lines.specs.Lines.{text_of}
 use Rattle.lines.proofs.Texts.{put_said, line_room}
 use Rattle.texts.proofs.Growing.{part_room, part_put}
 use Rattle.texts.proofs.Lines.{answer_text, answers_left, answer_said}
@@ -8,7 +9,7 @@ use Rattle.texts.proofs.parts.put_answers.Goals.{After-line_r}
 use Rattle.texts.proofs.parts.put_answers.Goals as goal
 
 -- the line that is built is the answer's
-said : (c : After-line_r) → c.line_r.result ≡ answer_text c.args.answers.now c.loop-i.i
+said : (c : After-line_r) → text_of c.line_r.result ≡ answer_text c.args.answers.now c.loop-i.i
 said c = answer_said c.args.answers.now c.loop-i.i c.line_r.ensures c.from.ensures
 
 pub put-end-requires : goal.put-end-requires

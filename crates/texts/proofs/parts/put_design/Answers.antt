@@ -1,5 +1,6 @@
 -- `texts::parts::put_design` meets its contract: the design's own line, then its access list. Assumes nothing.
 use Rattle.model.specs.Lines.{lines_d}
+use Rattle.lines.specs.Lines.{text_of}
 use Rattle.lines.proofs.Texts.{put_said, line_room}
 use Rattle.texts.specs.Parts.{people_in, design_in}
 use Rattle.texts.proofs.Growing.{Growing, none_put, part_room, part_put, last_room, last_put}
@@ -10,7 +11,7 @@ use Rattle.texts.proofs.parts.put_design.Goals.{After-line_d, After-put-end, Sta
 use Rattle.texts.proofs.parts.put_design.Goals as goal
 
 -- the line that is built is the design's
-said : (c : After-line_d) → c.line_d.result ≡ design_text (design_in c.args.design.now)
+said : (c : After-line_d) → text_of c.line_d.result ≡ design_text (design_in c.args.design.now)
 said c = design_said (design_in c.args.design.now) c.line_d.ensures c.code.ensures c.kind.ensures
 
 pub put-end-requires : goal.put-end-requires

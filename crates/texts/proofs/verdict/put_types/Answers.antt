@@ -2,6 +2,7 @@
 use mathlib.Core.Path.{◌≡◌}
 use Rattle.model.specs.Lines.{line_t}
 use Rattle.listing.specs.Tables.{rows_of}
+use Rattle.lines.specs.Lines.{text_of}
 use Rattle.lines.proofs.Texts.{put_said, line_room}
 use Rattle.texts.proofs.Growing.{part_room, part_put}
 use Rattle.texts.proofs.Creates.{types_left, type_said}
@@ -9,7 +10,7 @@ use Rattle.texts.proofs.verdict.put_types.Goals.{After-line_t}
 use Rattle.texts.proofs.verdict.put_types.Goals as goal
 
 -- the line that is built is the type's
-said : (c : After-line_t) → c.line_t.result ≡ line_t (rows_of c.args.rows.now) c.loop-t.t
+said : (c : After-line_t) → text_of c.line_t.result ≡ line_t (rows_of c.args.rows.now) c.loop-t.t
 said c = type_said (rows_of c.args.rows.now) c.loop-t.t _ c.line_t.ensures c.union_at.ensures
 
 pub put-end-requires : goal.put-end-requires

@@ -37,4 +37,4 @@ returns-in-Err c =
     let a = c.args in
     card_refused a.bytes.now a.table.now a.text.now c.if-text-lt-ROOM.false c.if-table-lt-TABLE_WORDS.false c.in-Err.refusal
     (c.in-Err.ensures.number ∙ ap scheme_card_number c.split_card.ensures.card)
-    c.print_refusal.ensures
+    (rw c.number.ensures at c.print_refusal.ensures)

@@ -1,4 +1,4 @@
-use Rattle.lines.proofs.Line.+digits.Given as goal
+use Rattle.lines.proofs.line.Line.+digits.Given as goal
 
 abbrev pub decreases-digits : goal.decreases-digits
 decreases-digits l = l.width

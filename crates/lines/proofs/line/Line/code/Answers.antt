@@ -3,9 +3,10 @@
 use Rattle.std.proofs.Common.{arith, ◌≡◌, ◌∙◌, ap, ◌∷◌, []}
 use mathlib.Core.List.{append_assoc}
 use Rattle.model.specs.Codes.{unpacked, unpadded}
+use Rattle.lines.specs.Lines.{text_of}
 use Rattle.lines.proofs.Figures.{unpacked_short}
-use Rattle.lines.proofs.Line.code.Goals.{After-unpadded}
-use Rattle.lines.proofs.Line.code.Goals as goal
+use Rattle.lines.proofs.line.Line.code.Goals.{After-unpadded}
+use Rattle.lines.proofs.line.Line.code.Goals as goal
 
 code_is : (c : After-unpadded) → c.unpadded.result.now ≡ unpacked c.args.w
 unfolding unpacked
@@ -16,7 +17,7 @@ extend-requires c = rw (code_is c) (omega (arith, unpacked_short c.args.w, c.pus
 
 pub returns-clause-text : goal.returns-clause-text
 returns-clause-text c =
-    c.extend.ensures.text ∙ rw (c.push.ensures.text, code_is (goal.at.returns-clause-text c).After-unpadded) (append_assoc c.args.self (32 ∷ []) (unpacked c.args.w))
+    c.extend.ensures.text ∙ rw (c.push.ensures.text, code_is (goal.at.returns-clause-text c).After-unpadded) (append_assoc (text_of c.args.self) (32 ∷ []) (unpacked c.args.w))
 
 pub returns-clause-room : goal.returns-clause-room
 returns-clause-room c =

@@ -1,7 +1,8 @@
--- `lines::Line::number`: as many figures as the number's power of ten tells. Assumes nothing.
+-- `Line::number`: as many figures as the number's power of ten tells. Assumes nothing.
 use Rattle.std.proofs.Common.{append_assoc, ◌≤◌, rules}
+use Rattle.lines.specs.Lines.{text_of}
 use Rattle.lines.proofs.Figures.{few_figures, decimal_digits}
-use Rattle.lines.proofs.Line.number.Goals as goal
+use Rattle.lines.proofs.line.Line.number.Goals as goal
 
 pub digits-requires : goal.digits-requires
 digits-requires c =
@@ -12,7 +13,7 @@ pub returns-clause-text : goal.returns-clause-text
 returns-clause-text c =
     let power = c.ilog10-width.ensures in
     rw (decimal_digits c.args.n _ c.max.ensures c.requires.0 _ power.power_le power.next_power_gt, c.digits.ensures.text, c.push.ensures.text)
-    (append_assoc c.args.self _ _)
+    (append_assoc (text_of c.args.self) _ _)
 
 pub returns-clause-room : goal.returns-clause-room
 returns-clause-room c =
