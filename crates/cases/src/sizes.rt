@@ -2,7 +2,7 @@
 use std::io;
 use trials::asking::{CREATE, ONE_CREATE, Scheme, run_by_a};
 use trials::printing::{text, text_end};
-use trials::writing::{Stream, letters};
+use trials::writing::{LongCard, Stream, letters};
 
 // Schemes of so many equal creates.
 fn commands(rt: &impl Print) -> io::Result<()> {
@@ -42,7 +42,7 @@ fn requests(rt: &impl Print) -> io::Result<()> {
         ("batch of 257: ", 257),
     ] {
         let stream = Stream::by(b"A", ONE_CREATE, n, |card| card.same(b"W", n));
-        text_end(rt, name, &stream)?;
+        text_end(rt, name, stream.as_slice())?;
     }
     Ok(())
 }
@@ -51,7 +51,7 @@ fn requests(rt: &impl Print) -> io::Result<()> {
 fn designs(rt: &impl Print) -> io::Result<()> {
     for (name, n) in [("64 designs: ", 64), ("65 designs: ", 65)] {
         let stream = Stream::by(b"A", ONE_CREATE, u16::from(n), |card| card.creates(n));
-        text_end(rt, name, &stream)?;
+        text_end(rt, name, stream.as_slice())?;
     }
     Ok(())
 }
@@ -63,12 +63,12 @@ fn bytes(rt: &impl Print) -> io::Result<()> {
         ("card of 65,536 bytes: ", 254),
         ("card of 65,537 bytes: ", 255),
     ] {
-        let stream = Stream::by(b"A", ONE_CREATE, 254, |card| {
-            card.same(letters(255), 252);
-            card.asks([0, 0, 0], b"W");
-            card.asks([0, 0, 0], letters(n));
-        });
-        text_end(rt, name, &stream)?;
+        let begun = Stream::by(b"A", ONE_CREATE, 254, |_| ());
+        let mut last = Stream::new();
+        last.asks([0, 0, 0], b"W");
+        last.asks([0, 0, 0], letters(n));
+        let card = LongCard::of(&begun, letters(255), 252, &last);
+        text_end(rt, name, card.as_slice())?;
     }
     Ok(())
 }

@@ -18,18 +18,18 @@ fn say(rt: &impl Print, name: &str, lines: &[u8]) -> io::Result<()> {
 }
 
 // What the batch program prints for a stream, as it stands in a text.
-fn batch_lines<'a>(stream: &Stream, text: &'a mut [u8]) -> &'a [u8] {
-    let printed = ribalonga::batch_text(stream.as_slice(), text);
+fn batch_lines<'a>(stream: &[u8], text: &'a mut [u8]) -> &'a [u8] {
+    let printed = ribalonga::batch_text(stream, text);
     text.get(..printed.bytes).unwrap_or(&[])
 }
 
 // What the batch program prints for a stream.
 pub fn text(rt: &impl Print, name: &str, stream: &Stream) -> io::Result<()> {
-    say(rt, name, batch_lines(stream, &mut [0; 52554]))
+    say(rt, name, batch_lines(stream.as_slice(), &mut [0; 52554]))
 }
 
-// The last line of what the batch program prints for a stream.
-pub fn text_end(rt: &impl Print, name: &str, stream: &Stream) -> io::Result<()> {
+// The last line of what the batch program prints for a stream's bytes.
+pub fn text_end(rt: &impl Print, name: &str, stream: &[u8]) -> io::Result<()> {
     let mut text = [0; 52554];
     let lines = batch_lines(stream, &mut text);
     let last = lines.split_inclusive(|b| *b == b'\n').last();

@@ -14,10 +14,10 @@ fn code_of(i: u8) -> [u8; 2] {
     [b'A' + i / 10, b'0' + i % 10]
 }
 
-// The bytes of a case: its cards, one behind the other.
+// The bytes of a case: its cards, one behind the other, but for a card that is as long as a card can be (`LongCard`).
 #[derive(Drop)]
 pub struct Stream {
-    bytes: ArrayVec<u8, 66000>,
+    bytes: ArrayVec<u8, 4200>,
 }
 
 impl Stream {
@@ -180,6 +180,51 @@ impl Stream {
     pub fn same(&mut self, code: &[u8], n: u16) {
         for _ in 0..n {
             self.asks([0, 0, 0], code);
+        }
+    }
+}
+
+// The bytes of a case whose last card is as long as a card can be.
+#[derive(Drop)]
+pub struct LongCard {
+    bytes: ArrayVec<u8, 66000>,
+}
+
+impl LongCard {
+    // The cards of a stream, of which the last is a batch card with no request yet, and in it the same request, so many times, and then those of
+    // another stream.
+    pub fn of(begun: &Stream, code: &[u8], n: u16, requests: &Stream) -> LongCard {
+        let mut card = LongCard {
+            bytes: ArrayVec::new(),
+        };
+        card.bytes(begun.as_slice());
+        let mut request = Stream::new();
+        request.asks([0, 0, 0], code);
+        for _ in 0..n {
+            card.bytes(request.as_slice());
+        }
+        card.bytes(requests.as_slice());
+        card.close(begun.as_slice().len());
+        card
+    }
+
+    // What was written.
+    pub fn as_slice(&self) -> &[u8] {
+        self.bytes.as_slice()
+    }
+
+    // Bytes as they are.
+    fn bytes(&mut self, bytes: &[u8]) {
+        let _ = self.bytes.try_extend_from_slice(bytes);
+    }
+
+    // The length of the last card's body, of which two bytes, the count, stood there when so many bytes were written.
+    fn close(&mut self, begun: usize) {
+        let Some(card) = self.bytes.as_mut_slice().get_mut(begun.saturating_sub(5)..) else {
+            return;
+        };
+        if let [_, high, low, body @ ..] = card {
+            [.., *high, *low] = body.len().to_be_bytes();
         }
     }
 }
