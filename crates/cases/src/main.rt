@@ -1,5 +1,5 @@
-// Runs what document 01 wants proved or run, and prints what comes out: a case's name, then the numbers or the lines that were given. P1 to P12 and the
-// sizes are document 01's; Scheme 1 to 6 are those of source document 001. What must come out is stored beside it, and the gate compares the two.
+// Runs the cases that are proved of the definitions, and the sizes, and prints what comes out: a case's name, then the numbers or the lines that were
+// given. P1 to P12 are the proved cases, Scheme 1 to 6 those of `mill`'s papers. What must come out is stored beside it, and the gate compares the two.
 #![tactic(auto)]
 
 mod proved;

@@ -1,4 +1,4 @@
-// P1 to P12 of document 01.
+// P1 to P12, the cases that are proved of the definitions.
 use mill::{commands_a, commands_b};
 use model::Command;
 use std::io;
@@ -6,7 +6,7 @@ use trials::asking::{CREATE, Scheme, asked, commands_c, line, roster_of, store_o
 use trials::printing::{text, verdict};
 use trials::writing::Stream;
 
-// P1 to P6: start 0; type, right and budget as document 01 names them.
+// P1 to P6: start 0; type, right and budget as the proved cases have them.
 fn create_verdicts(rt: &impl Print) -> io::Result<()> {
     for (name, commands, question) in [
         ("P1: ", commands_a(), [0, 0, 7, 11]),

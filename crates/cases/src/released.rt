@@ -1,4 +1,4 @@
-// The six schemes of source document 001, section 5: can the scientist, type 0, ever release, right 10?
+// The six worked schemes of document release: can the scientist, type 0, ever release, right 10?
 use mill::papers::{added_3, added_4, added_5, paper_1, paper_2, paper_6};
 use model::Command;
 use std::io;

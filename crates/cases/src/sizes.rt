@@ -1,4 +1,4 @@
-// The sizes that document 01 wants run and compared: the most that is taken, and one more.
+// The sizes: the most that is taken, and one more.
 use std::io;
 use trials::asking::{CREATE, ONE_CREATE, Scheme, run_by_a};
 use trials::printing::{text, text_end};

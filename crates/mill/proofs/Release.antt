@@ -1,4 +1,4 @@
--- The six schemes of source document 001 pass the scheme check, and what the paper says of their states comes out of the definitions by
+-- The six worked schemes of document release pass the scheme check, and what is said of their states comes out of the definitions by
 -- computation, with `reject.sec` from `so`. Assumes nothing.
 use Prim.Native.Nat.{ℕ}
 use mathlib.Core.Bool.{Bool, true, false, ◌&&◌}

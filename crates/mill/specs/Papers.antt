@@ -1,5 +1,5 @@
--- The six schemes of source document 001, section 5, "Document release examples". Types: 0 sci, 1 so, 2 po. One kind. "R = {own, read, write,
--- ask-sec, ask-pat, review, sec-ok, sec-reject, pat-ok, pat-reject, release}", rights 0 to 10. Assumes nothing.
+-- Six worked schemes of document release. The types are sci, a scientist (0), so, a security officer (1), and po, a patent officer (2); there is one kind.
+-- The rights, 0 to 10: own, read, write, ask-sec, ask-pat, review, sec-ok, sec-reject, pat-ok, pat-reject, release. Assumes nothing.
 use Rattle.std.specs.Prelude.{ℕ, List, [], ◌∷◌, ◌++◌, replicate}
 use Rattle.model.specs.declared.Command.{Command}
 use Rattle.model.specs.Words.{written_over}

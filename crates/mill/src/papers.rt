@@ -1,4 +1,4 @@
-// The six schemes of source document 001, section 5, as constant tables in the layout of A and B, with empty lines past the last command.
+// The six worked schemes of document release, as constant tables in the layout of A and B, with empty lines past the last command.
 // As in the paper, schemes 3, 4 and 5 are what they add to scheme 2. Proved equal to the definitions of specs/Papers.
 ghost use Rattle.std.specs.Prelude.{◌≡◌};
 ghost use Rattle.mill.specs.Papers.{paper1, paper2, paper6, added3, added4, added5, seven};

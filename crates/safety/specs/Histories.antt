@@ -6,7 +6,7 @@ use Rattle.model.specs.Rosters.{Person, type_at, roster_number}
 use Rattle.model.specs.Stores.{Design}
 use Rattle.model.specs.Requests.{Request, requested}
 
--- "people join at the end; nobody changes place or type; at most 32": the roster afterwards is one that document 01 admits
+-- people join at the end, nobody changes place or type, and there are at most 32: the roster afterwards is one that the check admits
 pub record Joined (types : ℕ) (before after : List Person) : Type 0 where
   pub admitted : roster_number types after ≡ 0
   pub longer : length before ≤ length after

@@ -3,7 +3,7 @@ use crate::printing::verdict;
 use model::{BatchRun, Command, Verdict};
 use std::io;
 
-// A command by its numbers, in the order of document 01's table. Stays: rows of seven numbers of one type would be cast.
+// A command by its numbers, in the order of a card. Stays: rows of seven numbers of one type would be cast.
 pub fn line(form: u8, source: u8, destination: u8, kind: u8, x: u32, y: u32, z: u32) -> Command {
     Command {
         form,

@@ -173,7 +173,7 @@ fn expect(what: &str, holds: bool) -> Tried<()> {
     if holds {
         Ok(())
     } else {
-        Err(format!("not as document 01 has it: {what}"))
+        Err(format!("not as the rules have it: {what}"))
     }
 }
 

@@ -1,7 +1,7 @@
 //! Evidence from outside the proofs: an independent model of Ribalonga, written
-//! from document 01 alone, and differential tests of the library against it.
+//! from the rules in words alone, and differential tests of the library against it.
 //!
-//! - `model`: document 01 read a second time.
+//! - `model`: the rules, read a second time.
 //! - `linked`: safe wrappers over the exported functions (feature `linked`).
 //! - `plain`: the same calls in plain Rust on lent memory, for the benchmark, and
 //!   in the library's place where none is linked.

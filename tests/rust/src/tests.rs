@@ -1,4 +1,4 @@
-//! Tests of the model itself. They need no library: what document 01 says outright
+//! Tests of the model itself. They need no library: what the rules say outright
 //! is held against the model here, and the generators and guards are tried as well.
 
 use crate::answers::*;
@@ -359,7 +359,7 @@ fn valid_settings_are_valid() {
     }
 }
 
-/// One cause after the other is taken away, in document 01's order.
+/// One cause after the other is taken away, in the order of the rules.
 #[test]
 fn a_request_is_refused_in_order() {
     let good = Command { form: GRANT, source: 0, destination: 1, kind: 0, x: 4, y: 4, z: 16 };
@@ -589,7 +589,7 @@ fn refusals_leave_the_table_save_18_and_19() {
     assert_eq!(left(&mill::A, 31), (15, 0));
 }
 
-// Shortcuts that document 01 shuts out.
+// Shortcuts that the rules shut out.
 
 #[test]
 fn a_handover_within_one_type_gets_a_verdict() {

@@ -1,4 +1,4 @@
-//! The model: document 01 read a second time, with lists, maps and wide numbers.
+//! The model: the rules, read a second time, with lists, maps and wide numbers.
 //!
 //! Each call is a pure function from its inputs to the answer and all lent memory
 //! at exit. Nothing here was taken from the library's definitions or code.
@@ -15,7 +15,7 @@ pub mod verdicts;
 use crate::answers::*;
 use lent::{Design, Person};
 
-// Sizes: the table of document 01.
+// Sizes: the most of each.
 pub const TYPES: usize = 8;
 pub const KINDS: usize = 4;
 pub const RIGHTS: usize = 32;
