@@ -14,7 +14,14 @@ fn code_of(i: u8) -> [u8; 2] {
     [b'A' + i / 10, b'0' + i % 10]
 }
 
-// The bytes of a case: its cards, one behind the other, but for a card that is as long as a card can be (`LongCard`).
+// Ends a card: the length of its body is written into its header.
+fn close(card: &mut [u8]) {
+    if let [_, high, low, body @ ..] = card {
+        [.., *high, *low] = body.len().to_be_bytes();
+    }
+}
+
+// The bytes of a case: its cards, one behind the other, but for those of about the most bytes of a card (`LongCard`).
 #[derive(Drop)]
 pub struct Stream {
     bytes: ArrayVec<u8, 4200>,
@@ -101,11 +108,8 @@ impl Stream {
         let from = self.bytes.len();
         self.bytes(&[1, 0, 0]);
         body(self);
-        let Some(card) = self.bytes.as_mut_slice().get_mut(from..) else {
-            return;
-        };
-        if let [_, high, low, body @ ..] = card {
-            [.., *high, *low] = body.len().to_be_bytes();
+        if let Some(card) = self.bytes.as_mut_slice().get_mut(from..) {
+            close(card);
         }
     }
 
@@ -184,7 +188,10 @@ impl Stream {
     }
 }
 
-// The bytes of a case whose last card is as long as a card can be.
+// The bytes of a batch card that is written on, with no request yet: the header, and the count.
+const BEGUN_BATCH: usize = 5;
+
+// The bytes of a case whose last card has about the most bytes of a card.
 #[derive(Drop)]
 pub struct LongCard {
     bytes: ArrayVec<u8, 66000>,
@@ -204,7 +211,10 @@ impl LongCard {
             card.bytes(request.as_slice());
         }
         card.bytes(requests.as_slice());
-        card.close(begun.as_slice().len());
+        let from = begun.as_slice().len().saturating_sub(BEGUN_BATCH);
+        if let Some(batch) = card.bytes.as_mut_slice().get_mut(from..) {
+            close(batch);
+        }
         card
     }
 
@@ -216,15 +226,5 @@ impl LongCard {
     // Bytes as they are.
     fn bytes(&mut self, bytes: &[u8]) {
         let _ = self.bytes.try_extend_from_slice(bytes);
-    }
-
-    // The length of the last card's body, of which two bytes, the count, stood there when so many bytes were written.
-    fn close(&mut self, begun: usize) {
-        let Some(card) = self.bytes.as_mut_slice().get_mut(begun.saturating_sub(5)..) else {
-            return;
-        };
-        if let [_, high, low, body @ ..] = card {
-            [.., *high, *low] = body.len().to_be_bytes();
-        }
     }
 }
