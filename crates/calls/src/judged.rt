@@ -4,7 +4,7 @@ use model::Command;
 use std::io;
 use trials::asking::{CREATE, Scheme, asked, asked_in, commands_c, line};
 use trials::printing::verdict_lines;
-use trials::writing::Stream;
+use trials::writing::ShortStream;
 
 // Trap 6: a table too short; budgets.
 fn tables(rt: &impl Print) -> io::Result<()> {
@@ -104,7 +104,7 @@ fn lines(rt: &impl Print) -> io::Result<()> {
         ("T18 no create:\n", Scheme::new(1, 1, 1, &[])),
         ("T18 0 types: ", Scheme::new(0, 1, 1, &[])),
     ] {
-        let mut stream = Stream::new();
+        let mut stream = ShortStream::new();
         stream.scheme(scheme);
         verdict_lines(rt, name, &stream)?;
     }

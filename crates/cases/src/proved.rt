@@ -4,7 +4,7 @@ use model::Command;
 use std::io;
 use trials::asking::{CREATE, Scheme, asked, commands_c, line, roster_of, store_of};
 use trials::printing::{text, verdict};
-use trials::writing::Stream;
+use trials::writing::ShortStream;
 
 // P1 to P6: start 0; type, right and budget as the proved cases have them.
 fn create_verdicts(rt: &impl Print) -> io::Result<()> {
@@ -74,7 +74,7 @@ fn design_verdicts(rt: &impl Print) -> io::Result<()> {
 // P8: cell 03 by command 1 of A.
 fn internal(rt: &impl Print) -> io::Result<()> {
     let commands = commands_a();
-    let stream = Stream::by(b"ANN", Scheme::of_mill(&commands), 2, |card| {
+    let stream = ShortStream::by(b"ANN", Scheme::of_mill(&commands), 2, |card| {
         card.asks([0, 0, 0], b"W-104");
         card.asks([1, 0, 0], b"W-104");
     });
@@ -101,7 +101,7 @@ fn spellings(rt: &impl Print) -> io::Result<()> {
         ("", "@"),
         ("", "["),
     ] {
-        let stream = Stream::by(b"ANN", scheme, 1, |card| {
+        let stream = ShortStream::by(b"ANN", scheme, 1, |card| {
             card.asks([0, 0, 0], code.as_bytes());
         });
         print!(rt; "{name}code {code}")?;
@@ -113,7 +113,7 @@ fn spellings(rt: &impl Print) -> io::Result<()> {
 // P12: a grant from a person to itself, X = Y = Z = 01, cell 01.
 fn to_itself(rt: &impl Print) -> io::Result<()> {
     let commands = [CREATE, line(2, 0, 0, 0, 1, 1, 1)];
-    let stream = Stream::by(b"A", Scheme::new(1, 1, 1, &commands), 2, |card| {
+    let stream = ShortStream::by(b"A", Scheme::new(1, 1, 1, &commands), 2, |card| {
         card.asks([0, 0, 0], b"W");
         card.asks([1, 0, 0], b"W");
     });

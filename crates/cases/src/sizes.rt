@@ -2,7 +2,7 @@
 use std::io;
 use trials::asking::{CREATE, ONE_CREATE, Scheme, run_by_a};
 use trials::printing::{text, text_end};
-use trials::writing::{LongCard, Stream, letters};
+use trials::writing::{LongCard, ShortStream, letters};
 
 // Schemes of so many equal creates.
 fn commands(rt: &impl Print) -> io::Result<()> {
@@ -14,7 +14,7 @@ fn commands(rt: &impl Print) -> io::Result<()> {
     ] {
         let commands = [CREATE; 255];
         let commands = commands.get(..n).unwrap_or(&[]);
-        let stream = Stream::quiet(Scheme::new(1, 1, 1, commands));
+        let stream = ShortStream::quiet(Scheme::new(1, 1, 1, commands));
         text(rt, name, &stream)?;
     }
     Ok(())
@@ -28,7 +28,7 @@ fn people(rt: &impl Print) -> io::Result<()> {
         ("33 people: ", 33),
         ("255 people: ", 255),
     ] {
-        let stream = Stream::rostered(ONE_CREATE, n, |card| card.people(n));
+        let stream = ShortStream::rostered(ONE_CREATE, n, |card| card.people(n));
         text(rt, name, &stream)?;
     }
     Ok(())
@@ -41,7 +41,7 @@ fn requests(rt: &impl Print) -> io::Result<()> {
         ("batch of 256: ", 256),
         ("batch of 257: ", 257),
     ] {
-        let stream = Stream::by(b"A", ONE_CREATE, n, |card| card.same(b"W", n));
+        let stream = ShortStream::by(b"A", ONE_CREATE, n, |card| card.same(b"W", n));
         text_end(rt, name, stream.as_slice())?;
     }
     Ok(())
@@ -50,7 +50,7 @@ fn requests(rt: &impl Print) -> io::Result<()> {
 // Batches of so many creates, each of another design.
 fn designs(rt: &impl Print) -> io::Result<()> {
     for (name, n) in [("64 designs: ", 64), ("65 designs: ", 65)] {
-        let stream = Stream::by(b"A", ONE_CREATE, u16::from(n), |card| card.creates(n));
+        let stream = ShortStream::by(b"A", ONE_CREATE, u16::from(n), |card| card.creates(n));
         text_end(rt, name, stream.as_slice())?;
     }
     Ok(())
@@ -63,8 +63,8 @@ fn bytes(rt: &impl Print) -> io::Result<()> {
         ("card of 65,536 bytes: ", 254),
         ("card of 65,537 bytes: ", 255),
     ] {
-        let begun = Stream::by(b"A", ONE_CREATE, 254, |_| ());
-        let mut last = Stream::new();
+        let begun = ShortStream::by(b"A", ONE_CREATE, 254, |_| ());
+        let mut last = ShortStream::new();
         last.asks([0, 0, 0], b"W");
         last.asks([0, 0, 0], letters(n));
         let card = LongCard::of(&begun, letters(255), 252, &last);
@@ -75,7 +75,7 @@ fn bytes(rt: &impl Print) -> io::Result<()> {
 
 // Trap 5: with 64 designs, a code that exists is 10 and a new one 11. A card of 64 creates, one of a code that exists and one of a new code, on an empty store.
 fn full_store(rt: &impl Print) -> io::Result<()> {
-    let mut card = Stream::new();
+    let mut card = ShortStream::new();
     card.batch(66, |card| {
         card.creates(64);
         card.asks([0, 0, 0], b"A0");

@@ -2,6 +2,7 @@
 pub mod Compared
 pub mod Listed
 pub mod Expanding
+pub mod Scopes
 pub mod Searching
 pub mod Firsts
 pub mod Duplicated

@@ -39,6 +39,13 @@ module _ (words : List ℕ) where
   pub store_counts : get_or words 0 0 ≡ length designs
   store_counts = sym length-store
 
+  -- the design at the words that a code is packed into is the design with that code
+  pub place_packed : (code : List ℕ) → spelled code ≡ true → (w : Code) → w ≡ packed code → (o : Option ℕ)
+      → o ≡ (Some (place_of (unpacked w) designs) when exists (unpacked w) designs else None)
+      → o ≡ (Some (place_of code designs) when exists code designs else None)
+  place_packed code h w p o found =
+      found ∙ ap (λ (c : List ℕ). Some (place_of c designs) when exists c designs else None) (ap unpacked p ∙ unpacked-packed code h)
+
   -- ---- the designs as records, which stand behind the count
 
   module _ (size n : ℕ) (rest : List ℕ) (wide : size ≡ 36) (e : n ≡ length designs) (behind : rest ≡ drop 1 words) where
@@ -49,17 +56,16 @@ module _ (words : List ℕ) where
     place_is code = rw codes_are (first-map (λ (d : Design). d.code) (λ c. same c code) designs)
 
     -- a place among the records, as the search for three words gives it
-    pub place_found : (w : Code) (o : Option ℕ)
+    pub words_found : (w : Code) (o : Option ℕ)
         → o ≡ (Some (first_place (λ c. same c (unpacked w)) (codes_in size n rest)) when ltb (first_place (λ c. same c (unpacked w)) (codes_in size n rest)) n else None)
         → o ≡ (Some (place_of (unpacked w) designs) when exists (unpacked w) designs else None)
-    place_found w o found = found ∙ ap₂ (λ (i k : ℕ). Some i when ltb i k else None) (place_is (unpacked w)) e
+    words_found w o found = found ∙ ap₂ (λ (i k : ℕ). Some i when ltb i k else None) (place_is (unpacked w)) e
 
-  -- with the words that a code is packed into
-  pub place_packed : (code : List ℕ) → spelled code ≡ true → (w : Code) → w ≡ packed code → (o : Option ℕ)
-      → o ≡ (Some (place_of (unpacked w) designs) when exists (unpacked w) designs else None)
-      → o ≡ (Some (place_of code designs) when exists code designs else None)
-  place_packed code h w p o found =
-      found ∙ ap (λ (c : List ℕ). Some (place_of c designs) when exists c designs else None) (ap unpacked p ∙ unpacked-packed code h)
+    -- a place among the records, as the search for a packed code gives it
+    pub place_found : (code : List ℕ) → spelled code ≡ true → (w : Code) → w ≡ packed code → (o : Option ℕ)
+        → o ≡ (Some (first_place (λ c. same c (unpacked w)) (codes_in size n rest)) when ltb (first_place (λ c. same c (unpacked w)) (codes_in size n rest)) n else None)
+        → o ≡ (Some (place_of code designs) when exists code designs else None)
+    place_found code h w p o found = place_packed code h w p o (words_found w o found)
 
   -- ---- the design at a place
 

@@ -2,7 +2,7 @@
 use std::io;
 use trials::asking::{CREATE, ONE_CREATE, Scheme, line};
 use trials::printing::text;
-use trials::writing::{Stream, letters};
+use trials::writing::{ShortStream, letters};
 
 // Traps 2 and 3: a scheme of two types and one person, whose code is n letters.
 fn person_alone(rt: &impl Print) -> io::Result<()> {
@@ -15,7 +15,7 @@ fn person_alone(rt: &impl Print) -> io::Result<()> {
         ("T3 type 2: ", 2, 1),
     ] {
         let scheme = Scheme::new(2, 1, 1, &[]);
-        let stream = Stream::rostered(scheme, 1, |card| card.person(t, letters(n)));
+        let stream = ShortStream::rostered(scheme, 1, |card| card.person(t, letters(n)));
         text(rt, name, &stream)?;
     }
     Ok(())
@@ -36,7 +36,7 @@ fn three_people(rt: &impl Print) -> io::Result<()> {
         ("T2 4 people counted: ", 4, wrong),
         ("T2 33 people counted: ", 33, wrong),
     ] {
-        let stream = Stream::rostered(Scheme::new(2, 1, 1, &[]), count, |card| {
+        let stream = ShortStream::rostered(Scheme::new(2, 1, 1, &[]), count, |card| {
             for (t, code) in people {
                 card.person(t, &[code]);
             }
@@ -60,7 +60,7 @@ fn requests(rt: &impl Print) -> io::Result<()> {
         ("T2 two bytes more: ", 1, 1, true),
         ("T14 cut short: ", 2, 1, true),
     ] {
-        let stream = Stream::by(b"A", ONE_CREATE, count, |card| {
+        let stream = ShortStream::by(b"A", ONE_CREATE, count, |card| {
             card.asks([0, 0, 0], letters(n));
             if more {
                 card.bytes(&[0, 0]);
@@ -113,7 +113,7 @@ fn in_order(rt: &impl Print) -> io::Result<()> {
         line(1, 0, 0, 1, 0, 0, 1),
         line(3, 0, 0, 1, 2, 0, 2),
     ];
-    let mut stream = Stream::new();
+    let mut stream = ShortStream::new();
     stream.scheme(Scheme::new(2, 2, 2, &commands));
     stream.roster(3, |card| {
         card.person(0, b"A");

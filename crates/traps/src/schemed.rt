@@ -3,7 +3,7 @@ use model::Command;
 use std::io;
 use trials::asking::{ONE_CREATE, Scheme, line};
 use trials::printing::text;
-use trials::writing::Stream;
+use trials::writing::ShortStream;
 
 // Trap 16: the counts.
 fn counts(rt: &impl Print) -> io::Result<()> {
@@ -17,7 +17,7 @@ fn counts(rt: &impl Print) -> io::Result<()> {
         ("T16 0 rights: ", 1, 1, 0),
         ("T16 33 rights: ", 1, 1, 33),
     ] {
-        let stream = Stream::quiet(Scheme::new(types, kinds, rights, &[]));
+        let stream = ShortStream::quiet(Scheme::new(types, kinds, rights, &[]));
         text(rt, name, &stream)?;
     }
     Ok(())
@@ -26,7 +26,7 @@ fn counts(rt: &impl Print) -> io::Result<()> {
 // A good create, then this command, in a scheme of two types, two kinds and so many rights.
 fn commanded(rt: &impl Print, name: &str, rights: usize, c: Command) -> io::Result<()> {
     let commands = [line(1, 1, 1, 1, 0, 0, 7), c];
-    let stream = Stream::quiet(Scheme::new(2, 2, rights, &commands));
+    let stream = ShortStream::quiet(Scheme::new(2, 2, rights, &commands));
     text(rt, name, &stream)
 }
 
@@ -70,7 +70,7 @@ fn faults(rt: &impl Print) -> io::Result<()> {
 
 // A good stream of 35 bytes and a zero, in which one byte, at this place, is another; its first n bytes.
 fn changed(rt: &impl Print, name: &str, at: usize, b: u8, n: usize) -> io::Result<()> {
-    let mut stream = Stream::quiet(ONE_CREATE);
+    let mut stream = ShortStream::quiet(ONE_CREATE);
     stream.bytes(&[0]);
     stream.set(at, b);
     stream.truncate(n);
@@ -133,7 +133,7 @@ fn wants(rt: &impl Print) -> io::Result<()> {
 
 // Trap 12: a scheme may have no command.
 fn no_command(rt: &impl Print) -> io::Result<()> {
-    let stream = Stream::by(
+    let stream = ShortStream::by(
         b"A",
         Scheme::new(1, 1, 1, &[]),
         1,
@@ -147,7 +147,7 @@ fn nothing_asked(rt: &impl Print) -> io::Result<()> {
     let internal = line(3, 0, 0, 0, 0, 0, 2);
     let commands = [line(1, 0, 0, 0, 0, 0, 0), internal, internal];
     for (name, asked) in [("T12 X = 0:\n", [0, 1, 2]), ("T17:\n", [0, 0, 0])] {
-        let stream = Stream::by(b"A", Scheme::new(1, 1, 2, &commands), 3, |card| {
+        let stream = ShortStream::by(b"A", Scheme::new(1, 1, 2, &commands), 3, |card| {
             for c in asked {
                 card.asks([c, 0, 0], b"W");
             }

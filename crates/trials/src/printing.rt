@@ -1,5 +1,5 @@
 // What a case prints: its name, then what came out. A name ends with its own space or newline.
-use crate::writing::Stream;
+use crate::writing::{Cards, Room};
 use model::Verdict;
 use std::io;
 
@@ -24,7 +24,7 @@ fn batch_lines<'a>(stream: &[u8], text: &'a mut [u8]) -> &'a [u8] {
 }
 
 // What the batch program prints for a stream.
-pub fn text(rt: &impl Print, name: &str, stream: &Stream) -> io::Result<()> {
+pub fn text<R: Room>(rt: &impl Print, name: &str, stream: &Cards<R>) -> io::Result<()> {
     say(rt, name, batch_lines(stream.as_slice(), &mut [0; 52554]))
 }
 
@@ -37,7 +37,7 @@ pub fn text_end(rt: &impl Print, name: &str, stream: &[u8]) -> io::Result<()> {
 }
 
 // What the verdict program prints for a stream.
-pub fn verdict_lines(rt: &impl Print, name: &str, stream: &Stream) -> io::Result<()> {
+pub fn verdict_lines<R: Room>(rt: &impl Print, name: &str, stream: &Cards<R>) -> io::Result<()> {
     let mut text = [0; 7488];
     let printed = ribalonga::verdict_text(stream.as_slice(), &mut [0; 16384], &mut text);
     say(rt, name, text.get(..printed.bytes).unwrap_or(&[]))

@@ -1,4 +1,7 @@
 // The cards of the cases, written byte by byte into a stream with a fixed room, behind whose end nothing is written.
+ghost use Rattle.std.specs.Prelude.{◌≡◌, ◌+◌, [], ◌++◌, leb, length, take};
+ghost use Rattle.model.specs.Words.{◌when◌else◌};
+
 use crate::asking::Scheme;
 use arrayvec::ArrayVec;
 use model::Command;
@@ -21,30 +24,92 @@ fn close(card: &mut [u8]) {
     }
 }
 
-// The bytes of a case: its cards, one behind the other, but for those of about the most bytes of a card (`LongCard`).
-#[derive(Drop)]
-pub struct Stream {
-    bytes: ArrayVec<u8, 4200>,
+// What the bytes of a case are written into, one behind the other.
+pub trait Room: Drop {
+    ghost use Rattle.std.specs.Prelude.{ℕ, List};
+
+    // The bytes that were written, and how many there may be.
+    ghost bytes: { Self → List ℕ };
+
+    ghost most: { ℕ };
+
+    // Room in which nothing is written.
+    fn empty() -> Self
+        ensures { bytes result ≡ [] };
+
+    // What was written.
+    fn written(&self) -> &[u8]
+        ensures { result.now ≡ bytes self.now };
+
+    // What was written, to be changed.
+    fn written_mut(&mut self) -> &mut [u8]
+        ensures { result.now ≡ bytes self.old };
+
+    // These bytes more, if there is room for all of them, and else none.
+    fn write(&mut self, more: &[u8])
+        ensures { bytes self.new ≡ (bytes self.old ++ more.now when leb (length (bytes self.old) + length more.now) most else bytes self.old) };
+
+    // The first bytes alone.
+    fn keep(&mut self, n: usize)
+        ensures { bytes self.new ≡ take n (bytes self.old) };
 }
 
-impl Stream {
+impl<const BYTES: usize> Room for ArrayVec<u8, BYTES> {
+    ghost bytes = { λ v. v.items };
+
+    ghost most = { BYTES };
+
+    fn empty() -> Self {
+        ArrayVec::new()
+    }
+
+    fn written(&self) -> &[u8] {
+        self.as_slice()
+    }
+
+    fn written_mut(&mut self) -> &mut [u8] {
+        self.as_mut_slice()
+    }
+
+    fn write(&mut self, more: &[u8]) {
+        let _ = self.try_extend_from_slice(more);
+    }
+
+    fn keep(&mut self, n: usize) {
+        self.truncate(n);
+    }
+}
+
+// The bytes of a case: its cards, one behind the other.
+#[derive(Drop)]
+pub struct Cards<R: Drop> {
+    bytes: R,
+}
+
+// Cards of which one may have about the most bytes of a card.
+pub type Stream = Cards<ArrayVec<u8, 66000>>;
+
+// Cards as most cases have them: handed over by value, they cost what their room is.
+pub type ShortStream = Cards<ArrayVec<u8, 4200>>;
+
+impl<R: Room> Cards<R> {
     // A stream of no card.
-    pub fn new() -> Stream {
-        Stream {
-            bytes: ArrayVec::new(),
-        }
+    pub fn new() -> Self
+        ensures { R.bytes result.bytes ≡ [] }
+    {
+        Cards { bytes: R::empty() }
     }
 
     // A scheme, the roster of one person of type 0 with this code, and a batch that counts so many requests.
-    pub fn by<F: FnOnce(&mut Stream)>(
+    pub fn by<F: FnOnce(&mut Cards<R>)>(
         code: &[u8],
         scheme: Scheme,
         count: u16,
         requests: F,
-    ) -> Stream
+    ) -> Self
         requires { F.IsAlwaysCallable requests }
     {
-        let mut stream = Stream::new();
+        let mut stream = Self::new();
         stream.scheme(scheme);
         stream.roster(1, |card| card.person(0, code));
         stream.batch(count, requests);
@@ -52,10 +117,10 @@ impl Stream {
     }
 
     // A scheme, a roster that counts so many people, and a batch of none.
-    pub fn rostered<F: FnOnce(&mut Stream)>(scheme: Scheme, count: u8, people: F) -> Stream
+    pub fn rostered<F: FnOnce(&mut Cards<R>)>(scheme: Scheme, count: u8, people: F) -> Self
         requires { F.IsAlwaysCallable people }
     {
-        let mut stream = Stream::new();
+        let mut stream = Self::new();
         stream.scheme(scheme);
         stream.roster(count, people);
         stream.batch(0, |_| ());
@@ -63,30 +128,36 @@ impl Stream {
     }
 
     // A scheme, the roster of A alone and a batch of none.
-    pub fn quiet(scheme: Scheme) -> Stream {
-        Stream::by(b"A", scheme, 0, |_| ())
+    pub fn quiet(scheme: Scheme) -> Self {
+        Self::by(b"A", scheme, 0, |_| ())
     }
 
     // What was written.
-    pub fn as_slice(&self) -> &[u8] {
-        self.bytes.as_slice()
+    pub fn as_slice(&self) -> &[u8]
+        ensures { result.now ≡ R.bytes self.now.bytes }
+    {
+        self.bytes.written()
     }
 
     // Changes the byte at a place.
     pub fn set(&mut self, at: usize, b: u8) {
-        if let Some(place) = self.bytes.get_mut(at) {
+        if let Some(place) = self.bytes.written_mut().get_mut(at) {
             *place = b;
         }
     }
 
     // Keeps the first n bytes.
-    pub fn truncate(&mut self, n: usize) {
-        self.bytes.truncate(n);
+    pub fn truncate(&mut self, n: usize)
+        ensures { R.bytes self.new.bytes ≡ take n (R.bytes self.old.bytes) }
+    {
+        self.bytes.keep(n);
     }
 
-    // Bytes as they are.
-    pub fn bytes(&mut self, bytes: &[u8]) {
-        let _ = self.bytes.try_extend_from_slice(bytes);
+    // Bytes as they are, if there is room for all of them, and else none.
+    pub fn bytes(&mut self, bytes: &[u8])
+        ensures { R.bytes self.new.bytes ≡ (R.bytes self.old.bytes ++ bytes.now when leb (length (R.bytes self.old.bytes) + length bytes.now) R.most else R.bytes self.old.bytes) }
+    {
+        self.bytes.write(bytes);
     }
 
     // A count in one byte.
@@ -102,13 +173,13 @@ impl Stream {
     }
 
     // A card: version 1, the length of its body, and the body that is written.
-    fn card<F: FnOnce(&mut Stream)>(&mut self, body: F)
+    fn card<F: FnOnce(&mut Cards<R>)>(&mut self, body: F)
         requires { F.IsAlwaysCallable body }
     {
-        let from = self.bytes.len();
+        let from = self.as_slice().len();
         self.bytes(&[1, 0, 0]);
         body(self);
-        if let Some(card) = self.bytes.as_mut_slice().get_mut(from..) {
+        if let Some(card) = self.bytes.written_mut().get_mut(from..) {
             close(card);
         }
     }
@@ -135,7 +206,7 @@ impl Stream {
     }
 
     // A roster card that counts so many people.
-    pub fn roster<F: FnOnce(&mut Stream)>(&mut self, count: u8, people: F)
+    pub fn roster<F: FnOnce(&mut Cards<R>)>(&mut self, count: u8, people: F)
         requires { F.IsAlwaysCallable people }
     {
         self.card(|card| {
@@ -158,7 +229,7 @@ impl Stream {
     }
 
     // A batch card that counts so many requests.
-    pub fn batch<F: FnOnce(&mut Stream)>(&mut self, count: u16, requests: F)
+    pub fn batch<F: FnOnce(&mut Cards<R>)>(&mut self, count: u16, requests: F)
         requires { F.IsAlwaysCallable requests }
     {
         self.card(|card| {
@@ -200,12 +271,17 @@ pub struct LongCard {
 impl LongCard {
     // The cards of a stream, of which the last is a batch card with no request yet, and in it the same request, so many times, and then those of
     // another stream.
-    pub fn of(begun: &Stream, code: &[u8], n: u16, requests: &Stream) -> LongCard {
+    pub fn of<R: Room, S: Room>(
+        begun: &Cards<R>,
+        code: &[u8],
+        n: u16,
+        requests: &Cards<S>,
+    ) -> LongCard {
         let mut card = LongCard {
             bytes: ArrayVec::new(),
         };
         card.bytes(begun.as_slice());
-        let mut request = Stream::new();
+        let mut request = ShortStream::new();
         request.asks([0, 0, 0], code);
         for _ in 0..n {
             card.bytes(request.as_slice());
