@@ -1,4 +1,4 @@
--- The listing in document 01's words and the small steps of a search agree: rows are only put at the end, so the row at hand stays as it is
+-- The listing as the rules give it and the small steps of a search agree: rows are only put at the end, so the row at hand stays as it is
 -- while its commands are tried, and one row takes as many small steps as there are commands, and one more. Assumes nothing.
 use Prim.Native.Nat.{ℕ, zero, suc, ◌+◌, ◌*◌, ◌≤◌, ◌<◌}
 use mathlib.Core.Bool.{Bool, true, false}

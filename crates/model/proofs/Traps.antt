@@ -1,4 +1,4 @@
--- Corners of document 01 that are easy to get wrong, computed on the definitions: each line gives what a definition answers, and what it must.
+-- Corners of the rules that are easy to get wrong, computed on the definitions: each line gives what a definition answers, and what it must.
 -- Assumes nothing.
 use Prim.Native.Nat.{ℕ}
 use Prim.Native.String.{String}

@@ -1,4 +1,4 @@
--- The cases P1 to P12 of document 01, one table, and the one statement over them.
+-- The cases P1 to P12, one table, and the one statement over them.
 -- Assumes nothing.
 use Rattle.std.specs.Prelude.{ℕ, ◌*◌, List, [], ◌∷◌, map, ◌≡◌, replicate}
 use Rattle.model.specs.declared.Command.{Command}

@@ -1,4 +1,4 @@
--- The listing of stand-in states, in document 01's words; the small step that a search moves on by; and what is reachable at all.
+-- The listing of stand-in states, as the rules give it; the small step that a search moves on by; and what is reachable at all.
 -- "A *stand-in state* has one cell per type. Commands act on it as above, each type being one person": a row of eight cells.
 -- Assumes nothing.
 use Rattle.std.specs.Prelude.{ℕ, zero, suc, ◌<◌, Bool, true, ◌&&◌, List, [], ◌∷◌, ◌++◌, ◌≡◌, leb, ltb, length, get_or}

@@ -1,4 +1,4 @@
--- The worked batch of document 01, and the verdict on scheme A: the bytes that the programs read, and what they print, whole.
+-- The worked batch, and the verdict on scheme A: the bytes that the programs read, and what they print, whole.
 -- Assumes nothing.
 use Rattle.std.specs.Prelude.{ℕ, List, [], ◌∷◌, ◌++◌, map, ◌≡◌, length}
 use Prim.Native.String.{String}

@@ -104,6 +104,7 @@ fn long_streams_are_printed(rt: HostRuntime) {
     let stream = long_batch(253);
     let mut lines = [0; 52554];
     let printed = ribalonga::batch_text(stream.as_slice(), &mut lines);
+    assert!(rt; lines.starts_with(b"R 0 4\nR 1 4\n"));
     let whole = BreaksAt {
         lines: lines.get(..printed.bytes).unwrap_or(&[]),
     };

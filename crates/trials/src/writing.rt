@@ -1,10 +1,11 @@
 // The cards of the cases, written byte by byte into a stream with a fixed room, behind whose end nothing is written.
-ghost use Rattle.std.specs.Prelude.{◌≡◌, ◌+◌, [], ◌++◌, leb, length, take};
-ghost use Rattle.model.specs.Words.{◌when◌else◌};
+ghost use Rattle.std.specs.Prelude.{◌≡◌, [], take, slice_set};
+ghost use Rattle.trials.specs.Rooms.{added};
 
 use crate::asking::Scheme;
 use arrayvec::ArrayVec;
 use model::Command;
+use std::convert::AsSlice;
 
 // A code of so many letters A.
 pub fn letters(n: u8) -> &'static [u8] {
@@ -24,51 +25,49 @@ fn close(card: &mut [u8]) {
     }
 }
 
-// What the bytes of a case are written into, one behind the other.
-pub trait Room: Drop {
-    ghost use Rattle.std.specs.Prelude.{ℕ, List};
+// What the bytes of a case are written into, one behind the other: they are its `items`, which it lends as a slice.
+pub trait Room: AsSlice<u8> + Drop {
+    ghost use Rattle.std.specs.Prelude.{ℕ};
 
-    // The bytes that were written, and how many there may be.
-    ghost bytes: { Self → List ℕ };
-
+    // Up to how many bytes `write` adds.
     ghost most: { ℕ };
 
     // Room in which nothing is written.
     fn empty() -> Self
-        ensures { bytes result ≡ [] };
+        ensures { Self.items result ≡ [] };
 
-    // What was written.
-    fn written(&self) -> &[u8]
-        ensures { result.now ≡ bytes self.now };
+    // What was written, to be changed. What comes of a change is not said: no clause needs it.
+    fn lent(&mut self) -> &mut [u8]
+        ensures { result.now ≡ Self.items self.old };
 
-    // What was written, to be changed.
-    fn written_mut(&mut self) -> &mut [u8]
-        ensures { result.now ≡ bytes self.old };
+    // Another byte at a place, if there is one.
+    fn set(&mut self, at: usize, b: u8)
+        ensures { Self.items self.new ≡ slice_set (Self.items self.old) at b };
 
     // These bytes more, if there is room for all of them, and else none.
     fn write(&mut self, more: &[u8])
-        ensures { bytes self.new ≡ (bytes self.old ++ more.now when leb (length (bytes self.old) + length more.now) most else bytes self.old) };
+        ensures { Self.items self.new ≡ added most more.now (Self.items self.old) };
 
-    // The first bytes alone.
+    // The first n bytes alone.
     fn keep(&mut self, n: usize)
-        ensures { bytes self.new ≡ take n (bytes self.old) };
+        ensures { Self.items self.new ≡ take n (Self.items self.old) };
 }
 
 impl<const BYTES: usize> Room for ArrayVec<u8, BYTES> {
-    ghost bytes = { λ v. v.items };
-
     ghost most = { BYTES };
 
     fn empty() -> Self {
         ArrayVec::new()
     }
 
-    fn written(&self) -> &[u8] {
-        self.as_slice()
+    fn lent(&mut self) -> &mut [u8] {
+        self.as_mut_slice()
     }
 
-    fn written_mut(&mut self) -> &mut [u8] {
-        self.as_mut_slice()
+    fn set(&mut self, at: usize, b: u8) {
+        if let Some(place) = self.get_mut(at) {
+            *place = b;
+        }
     }
 
     fn write(&mut self, more: &[u8]) {
@@ -95,7 +94,7 @@ pub type ShortStream = Cards<ArrayVec<u8, 4200>>;
 impl<R: Room> Cards<R> {
     // A stream of no card.
     pub fn new() -> Self
-        ensures { R.bytes result.bytes ≡ [] }
+        ensures { R.items result.bytes ≡ [] }
     {
         Cards { bytes: R::empty() }
     }
@@ -134,28 +133,28 @@ impl<R: Room> Cards<R> {
 
     // What was written.
     pub fn as_slice(&self) -> &[u8]
-        ensures { result.now ≡ R.bytes self.now.bytes }
+        ensures { result.now ≡ R.items self.now.bytes }
     {
-        self.bytes.written()
+        R::as_slice(&self.bytes)
     }
 
-    // Changes the byte at a place.
-    pub fn set(&mut self, at: usize, b: u8) {
-        if let Some(place) = self.bytes.written_mut().get_mut(at) {
-            *place = b;
-        }
+    // Changes the byte at a place, if there is one.
+    pub fn set(&mut self, at: usize, b: u8)
+        ensures { R.items self.new.bytes ≡ slice_set (R.items self.old.bytes) at b }
+    {
+        self.bytes.set(at, b);
     }
 
     // Keeps the first n bytes.
     pub fn truncate(&mut self, n: usize)
-        ensures { R.bytes self.new.bytes ≡ take n (R.bytes self.old.bytes) }
+        ensures { R.items self.new.bytes ≡ take n (R.items self.old.bytes) }
     {
         self.bytes.keep(n);
     }
 
     // Bytes as they are, if there is room for all of them, and else none.
     pub fn bytes(&mut self, bytes: &[u8])
-        ensures { R.bytes self.new.bytes ≡ (R.bytes self.old.bytes ++ bytes.now when leb (length (R.bytes self.old.bytes) + length bytes.now) R.most else R.bytes self.old.bytes) }
+        ensures { R.items self.new.bytes ≡ added R.most bytes.now (R.items self.old.bytes) }
     {
         self.bytes.write(bytes);
     }
@@ -179,7 +178,7 @@ impl<R: Room> Cards<R> {
         let from = self.as_slice().len();
         self.bytes(&[1, 0, 0]);
         body(self);
-        if let Some(card) = self.bytes.written_mut().get_mut(from..) {
+        if let Some(card) = self.bytes.lent().get_mut(from..) {
             close(card);
         }
     }
@@ -299,7 +298,7 @@ impl LongCard {
         self.bytes.as_slice()
     }
 
-    // Bytes as they are.
+    // Bytes as they are, if there is room for all of them, and else none.
     fn bytes(&mut self, bytes: &[u8]) {
         let _ = self.bytes.try_extend_from_slice(bytes);
     }

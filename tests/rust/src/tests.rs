@@ -43,7 +43,7 @@ fn do_request(set: &mut Setting, command: usize, from: usize, to: usize, code: &
     number
 }
 
-// Document 01: P1 to P12.
+// The proved cases: P1 to P12.
 
 #[test]
 fn p1_to_p6_verdicts() {
@@ -106,7 +106,7 @@ fn p9_to_p11_codes() {
     assert_eq!(create(b"-"), 4);
 }
 
-// Document 01: the programs.
+// What the programs print.
 
 #[test]
 fn the_worked_batch_prints_its_eleven_lines() {
@@ -171,7 +171,7 @@ fn a_refused_card_prints_only_x() {
     assert_eq!(printed(&broken[..scheme.len()]), "X 2\n");
 }
 
-// Document 01: sizes, and the room that follows from them.
+// The sizes, and the room that follows from them.
 
 #[test]
 fn rooms_follow_from_the_longest_lines() {
